@@ -1,0 +1,4 @@
+pub mod Meaning
+pub mod Refusal
+pub mod Turned
+pub mod Follows

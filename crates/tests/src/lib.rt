@@ -1,0 +1,6 @@
+#[cfg(test)]
+mod reversals;
+#[cfg(test)]
+mod texts;
+#[cfg(test)]
+mod towers;

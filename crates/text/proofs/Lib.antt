@@ -1,0 +1,3 @@
+pub mod Beginning
+pub mod Steps
+pub mod Wording

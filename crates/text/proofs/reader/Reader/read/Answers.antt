@@ -1,0 +1,16 @@
+use Rattle.text.proofs.Steps.{read-more, stuck-at, read-whole, stuck-end}
+use Rattle.text.proofs.reader.Reader.read.Needs as need
+
+pub returns-then-not-branch : need.returns-then-not-branch
+returns-then-not-branch c =
+    stuck-at (c .loop-at .self) (c .step .last .self) (c .args .words .now) (c .loop-at .at) _ (c .in-Continue-step .field-0) (c .loop-at-test .taken) (c .if-not-branch .taken) (c .in-Continue-step .ensures tt) (c .loop-at .inv)
+
+pub loop-at-again : need.loop-at-again
+loop-at-again c =
+    read-more (c .loop-at .self) (c .step .last .self) (c .args .words .now) (c .loop-at .at) _ (c .in-Continue-step .field-0) (c .loop-at-test .taken) (c .if-not-branch .left) (c .in-Continue-step .ensures tt) (c .loop-at .inv)
+
+pub returns-in-Turn : need.returns-in-Turn
+returns-in-Turn c = read-whole (c .loop-at .self) (c .args .words .now) (c .loop-at .at) (c .loop-at-test .left) (c .loop-at .inv) (c .in-Turn .is)
+
+pub returns-in-rest : need.returns-in-rest
+returns-in-rest c = stuck-end (c .loop-at .self) (c .args .words .now) (c .loop-at .at) (c .loop-at-test .left) (c .loop-at .inv) (c .in-rest .not-Turn)

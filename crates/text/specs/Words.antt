@@ -1,0 +1,35 @@
+use mathlib.Core.Path.{_≡_}
+use mathlib.Core.List.{List, [], _∷_, _++_}
+use Prim.Native.Nat.{ℕ, _<_}
+use lib.Chars.{codes}
+use lib.ListN.{length}
+use Rattle.std.specs.Reads.{Numeral, afterPlus, value}
+use Rattle.std.specs.Words.{white, dark, Without, Opens}
+use Rattle.text.specs.declared.word.Word.{Word}
+use Rattle.text.specs.declared.word.Word.the-variants.{Plain, Count, Turns, Number, Other}
+
+-- decimal digits, after a plus sign or none, that write n, a number from 0 to 255
+abbrev pub IsNumber : List ℕ → ℕ → Type 0
+IsNumber bs n = Numeral 10 (afterPlus bs) × (value 10 (afterPlus bs) ≡ n) × (n < 256)
+
+-- the text bs means this word
+abbrev pub Spells : List ℕ → Word → Type 0
+Spells bs Plain = bs ≡ codes "plain"
+Spells bs Count = bs ≡ codes "count"
+Spells bs Turns = bs ≡ codes "turns"
+Spells bs (Number n) = IsNumber bs n
+Spells bs Other = (bs ≡ codes "plain" → ⊥) × (bs ≡ codes "count" → ⊥) × (bs ≡ codes "turns" → ⊥) × ((n : ℕ) → IsNumber bs n → ⊥)
+
+-- bs is white space, then the piece, then `rest`, which is empty or begins with white space
+pub record Cut (bs piece rest : List ℕ) : Type 0 where
+  pub gap : List ℕ
+  pub whole : bs ≡ gap ++ (piece ++ rest)
+  pub blank : Without dark gap
+  pub some : 0 < length piece
+  pub solid : Without white piece
+  pub ends : (more : List ℕ) × Opens white rest more
+
+-- ws are the words of the line bs
+abbrev pub Words : List ℕ → List Word → Type 0
+Words bs [] = Without dark bs
+Words bs (w ∷ ws) = (piece : List ℕ) × (rest : List ℕ) × Cut bs piece rest × Spells piece w × Words rest ws

@@ -1,0 +1,21 @@
+mod parsing;
+mod reader;
+mod request;
+mod stack;
+mod word;
+mod words;
+
+pub use parsing::parse;
+pub use request::Expected;
+pub use request::ExpectedDebug;
+pub use request::ExpectedPartialEq;
+pub use request::Misread;
+pub use request::MisreadDebug;
+pub use request::MisreadFromAlloc;
+pub use request::MisreadPartialEq;
+pub use request::Request;
+pub use word::Word;
+pub use word::WordDebug;
+pub use word::WordPartialEq;
+pub use words::meaning;
+pub use words::read_words;

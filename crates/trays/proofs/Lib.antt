@@ -1,0 +1,5 @@
+pub mod Bit
+pub mod Exchange
+pub mod Marking
+pub mod Permuting
+pub mod Places
