@@ -1,4 +1,12 @@
+use machine::Ending;
+use machine::EndingDebug;
+use machine::EndingPartialEq;
+use machine::Fault;
+use machine::FaultDebug;
+use machine::FaultPartialEq;
 use std::test::*;
+use task::Outcome;
+use task::perform;
 use text::Expected;
 use text::ExpectedDebug;
 use text::ExpectedPartialEq;
@@ -59,4 +67,17 @@ fn misreads(rt: LibcRuntime) -> Result<(), Fail> {
     check_misread(&rt, "plain count count", 2, Expected::CountNumber)?;
     check_misread(&rt, "plain 1 count 1", 4, Expected::TurnsWord)?;
     check_misread(&rt, "plain 1 turns 2 plain", 4, Expected::Turn)
+}
+
+#[test]
+fn outcomes(rt: LibcRuntime) -> Result<(), Fail> {
+    let Outcome::Followed(course) = perform(rt.alloc(), "plain 1 3 2 turns 2 3 2")? else {
+        return Err(Fail::new("not followed"));
+    };
+    check_eq(course.start.trays(), &[1, 3, 2])?;
+    check_eq(course.trace.ending, Ending::Home)?;
+    let Outcome::Refused(fault) = perform(rt.alloc(), "plain 1 1 turns")? else {
+        return Err(Fail::new("not refused"));
+    };
+    check_eq(fault, Fault::TrayRepeated(1))
 }

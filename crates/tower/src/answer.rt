@@ -1,45 +1,33 @@
 use machine::Ending;
 use machine::Fault;
-use machine::Trace;
-use machine::follow;
-use plain::PlainMachine;
-use plain::PlainTower;
 use std::alloc::AllocError;
 use std::alloc::Global;
 use std::io;
+use task::Course;
+use task::Outcome;
+use task::perform;
 use text::Expected;
-use text::Misread;
-use text::Request;
-use text::parse;
-use text::read_words;
 
-// Does what a line asks for, and prints what came of it; a line with no words asks for nothing.
+// Does what a line asks for, and prints what came of it.
 pub(crate) fn answer(rt: &LibcRuntime, line: &str) -> io::Result<()> {
-    let words = read_words(rt.alloc(), line)?;
-    if words.is_empty() {
-        return Ok(());
-    }
-    match parse(rt.alloc(), &words) {
-        Ok(request) => perform(rt, &request),
-        Err(misread) => explain(rt, line, misread),
+    match perform(rt.alloc(), line)? {
+        Outcome::Nothing => Ok(()),
+        Outcome::Misread(at, expected) => explain(rt, line, at, expected),
+        Outcome::Refused(fault) => refuse(rt, fault, None),
+        Outcome::Followed(course) => show(rt, &course),
     }
 }
 
-// Sets the tower, makes the turns, and prints the trays after each.
-fn perform(rt: &LibcRuntime, request: &Request) -> io::Result<()> {
+// Prints the trays, those after each turn, and how the turns ended.
+fn show(rt: &LibcRuntime, course: &Course) -> io::Result<()> {
     let heap = rt.alloc();
-    let mut tower = PlainTower::new();
-    if let Err(fault) = tower.set(request.tray_count(), &request.tray_bytes()) {
-        return refuse(rt, fault, None);
-    }
-    let trays = listed(heap, tower.trays())?;
+    let trays = listed(heap, course.start.trays())?;
     println!(rt, "plain{trays}")?;
-    let trace = follow(heap, tower, &request.turns)?;
-    for (k, state) in request.turns.iter().zip(trace.states.iter()) {
+    for (k, state) in course.turns.iter().zip(course.trace.states.iter()) {
         let trays = listed(heap, state.trays())?;
         println!(rt, "turn {k}:{trays}")?;
     }
-    conclude(rt, &trace, &request.turns)
+    conclude(rt, course)
 }
 
 // The numbers, a space before each.
@@ -52,13 +40,13 @@ fn listed(heap: Global, numbers: &[u8]) -> Result<String, AllocError> {
 }
 
 // Says how the turns ended.
-fn conclude(rt: &LibcRuntime, trace: &Trace<PlainTower>, turns: &[u8]) -> io::Result<()> {
-    let made = trace.states.len();
+fn conclude(rt: &LibcRuntime, course: &Course) -> io::Result<()> {
+    let made = course.trace.states.len();
     let noun = if made == 1 { "turn" } else { "turns" };
-    match trace.ending {
+    match course.trace.ending {
         Ending::Home => println!(rt, "home after {made} {noun}"),
         Ending::NotHome => println!(rt, "not home after {made} {noun}"),
-        Ending::Refused(fault) => refuse(rt, fault, turns.get(made).copied()),
+        Ending::Refused(fault) => refuse(rt, fault, course.turns.get(made).copied()),
     }
 }
 
@@ -80,10 +68,7 @@ fn refuse(rt: &LibcRuntime, fault: Fault, turn: Option<u8>) -> io::Result<()> {
 }
 
 // Says where a line is not understood, and what was expected there.
-fn explain(rt: &LibcRuntime, line: &str, misread: Misread) -> io::Result<()> {
-    let Misread::Unexpected(at, expected) = misread else {
-        return Err(io::Error::from(io::ErrorKind::OutOfMemory));
-    };
+fn explain(rt: &LibcRuntime, line: &str, at: usize, expected: Expected) -> io::Result<()> {
     let wanted = match expected {
         Expected::Kind => "`plain`",
         Expected::Tray => "a tray number from 0 to 255, `count` or `turns`",

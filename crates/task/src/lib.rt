@@ -1,0 +1,6 @@
+mod outcome;
+mod performing;
+
+pub use outcome::Course;
+pub use outcome::Outcome;
+pub use performing::perform;
