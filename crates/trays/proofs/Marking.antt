@@ -4,21 +4,17 @@ use mathlib.Core.List.{List}
 use Prim.Native.Nat.{ℕ, zero, suc, _+_, _-_, _*_, _%_, _^_, _≤_, _<_}
 use native.Mathlib.Numerals.{add-one}
 use native.Mathlib.Omega.{arith}
-use lib.Bits.{bitAnd, bitOr, or-lt}
+use lib.Bits.{bitAnd, bitOr}
 use lib.Count.{ones}
 use lib.ListN.{getD}
-use Rattle.std.proofs.shelf.Bits.{pow-pos, pow-below, one-shl}
+use Rattle.std.proofs.shelf.Bits.{one-shl}
 use Rattle.std.proofs.shelf.Tests.{cases-eq}
 use Rattle.trays.specs.Marks.{marks, MarksCount}
 use Rattle.trays.specs.Setting.{Each, New, Numbered}
 use Rattle.trays.proofs.Bit.{bit, bit-or, bit-below, bit-zero, bit-same, bit-other, ones-or, and-mark}
 
-pub marks-below : (xs : List ℕ) (n i : ℕ) → ((k : ℕ) → k < i → getD xs k 0 - 1 < n) → marks xs i < 2 ^ n
-unfolding marks
-marks-below xs n zero h = pow-pos n
-marks-below xs n (suc i) h = or-lt n (marks xs i) (2 ^ (getD xs i 0 - 1)) (marks-below xs n i (λ k lt. h k (omega arith))) (pow-below (getD xs i 0 - 1) n (h i (omega arith)))
-
-pub marked : (xs : List ℕ) (i k : ℕ) → k < i → bit (getD xs k 0 - 1) (marks xs i) ≡ 1
+-- a number among the first i has its mark,
+marked : (xs : List ℕ) (i k : ℕ) → k < i → bit (getD xs k 0 - 1) (marks xs i) ≡ 1
 unfolding marks
 marked xs zero k lt = absurd (omega arith)
 marked xs (suc i) k lt =
@@ -31,7 +27,8 @@ marked xs (suc i) k lt =
     (λ (ne : k ≡ i → ⊥). let z = marked xs i k (omega arith) in omega arith)
     (cases-eq k i)
 
-pub marked-by : (xs : List ℕ) (i v : ℕ) → bit v (marks xs i) ≡ 1 → (k : ℕ) × (k < i) × (getD xs k 0 - 1 ≡ v)
+-- and a mark has its number
+marked-by : (xs : List ℕ) (i v : ℕ) → bit v (marks xs i) ≡ 1 → (k : ℕ) × (k < i) × (getD xs k 0 - 1 ≡ v)
 unfolding marks
 marked-by xs zero v e = let z = bit-zero v in absurd (omega arith)
 marked-by xs (suc i) v e =
@@ -45,7 +42,7 @@ marked-by xs (suc i) v e =
     (ih .0, (let lt = ih .1 in omega arith), ih .2))
     (cases-eq v (getD xs i 0 - 1))
 
-pub count-le : (xs : List ℕ) (i : ℕ) → ones (marks xs i) ≤ i
+count-le : (xs : List ℕ) (i : ℕ) → ones (marks xs i) ≤ i
 unfolding marks ones
 count-le xs zero = omega arith
 count-le xs (suc i) = let a = ones-or (getD xs i 0 - 1) (marks xs i) in let ih = count-le xs i in omega arith
@@ -55,7 +52,7 @@ unfolding ones
 ones-zero = refl
 
 -- the marks count as many as there are numbers where the numbers differ,
-pub count-apart : (xs : List ℕ) (i : ℕ) → ((j k : ℕ) → k < j → j < i → getD xs k 0 - 1 ≡ getD xs j 0 - 1 → ⊥) → ones (marks xs i) ≡ i
+count-apart : (xs : List ℕ) (i : ℕ) → ((j k : ℕ) → k < j → j < i → getD xs k 0 - 1 ≡ getD xs j 0 - 1 → ⊥) → ones (marks xs i) ≡ i
 unfolding marks
 count-apart xs zero h = ones-zero
 count-apart xs (suc i) h =
@@ -72,7 +69,7 @@ count-apart xs (suc i) h =
     omega arith
 
 -- and only there
-pub apart-count : (xs : List ℕ) (i : ℕ) → ones (marks xs i) ≡ i → (j k : ℕ) → k < j → j < i → getD xs k 0 - 1 ≡ getD xs j 0 - 1 → ⊥
+apart-count : (xs : List ℕ) (i : ℕ) → ones (marks xs i) ≡ i → (j k : ℕ) → k < j → j < i → getD xs k 0 - 1 ≡ getD xs j 0 - 1 → ⊥
 unfolding marks
 apart-count xs zero e j k lt l same = omega arith
 apart-count xs (suc i) e j k lt l same =
@@ -96,7 +93,7 @@ unfolding marks
 marks-none xs = refl
 
 -- a number's mark, made by a shift
-pub mark-is : (v : ℕ) → v ≤ 32 → (1 * 2 ^ (v - 1)) % 4294967296 ≡ 2 ^ (v - 1)
+mark-is : (v : ℕ) → v ≤ 32 → (1 * 2 ^ (v - 1)) % 4294967296 ≡ 2 ^ (v - 1)
 mark-is v le = one-shl (v - 1) 32 (omega arith)
 
 pub marks-more : (xs : List ℕ) (i m : ℕ) → getD xs i 0 ≤ 32 → m ≡ marks xs i → bitOr m ((1 * 2 ^ (getD xs i 0 - 1)) % 4294967296) ≡ marks xs (i + 1)
