@@ -53,3 +53,7 @@ Refused least n xs (TrayNumber i) = Counted least n × First (Numbered n xs) 0 n
 Refused least n xs (TrayRepeated i) = Counted least n × Each (Numbered n xs) 0 n × First (New xs) 0 n i
 Refused least n xs (TrayBeyond i) = Counted least n × Each (Numbered n xs) 0 n × Each (New xs) 0 n × First (Blank xs) n 32 i
 Refused least n xs NoSuchTurn = ⊥
+
+-- The rules leave one answer: what is accepted is refused by nothing, and what is refused has one fault.
+abbrev pub OneAnswer : Type 0
+OneAnswer = (least n : ℕ) (xs : List ℕ) → (Accepted least n xs → (f : Fault) → Refused least n xs f → ⊥) × ((f g : Fault) → Refused least n xs f → Refused least n xs g → f ≡ g)

@@ -5,12 +5,13 @@ ghost use Rattle.std.specs.declared.result.Result.the-variants.{Ok, Err};
 ghost use Rattle.machine.specs.declared.fault.Fault.the-variants.{TrayCount};
 ghost use Rattle.trays.specs.Marks.{MarksCount};
 ghost use Rattle.trays.specs.Permutation.{rising};
-ghost use Rattle.trays.specs.Setting.{Accepted, Blank, Counted, Each, Found, New, Numbered, Refused};
+ghost use Rattle.trays.specs.Setting.{Accepted, Blank, Counted, Each, Found, New, Numbered, OneAnswer, Refused};
 use machine::Fault;
 
 // Checks the 32 tray bytes of a machine of n trays: refuses a wrong number of trays, then numbers that are not 1 to n, each once, then a byte after them that is not 0.
 pub fn check_trays(least: u8, n: u8, bytes: &[u8; 32]) -> Result<(), Fault>
-    ensures { λ r. ⌜ elim r [ Ok _ ↦ Accepted least n (now (bytes .entry)) | Err f ↦ Refused least n (now (bytes .entry)) f ] ⌝ }
+    ensures one { λ _. ⌜ OneAnswer ⌝ }
+    ensures cases { λ r. ⌜ elim r [ Ok _ ↦ Accepted least n (now (bytes .entry)) | Err f ↦ Refused least n (now (bytes .entry)) f ] ⌝ }
 {
     check_numbers(least, n, bytes)?;
     match filled(n, bytes) {
