@@ -1,1 +1,2 @@
+pub mod Relabelling
 pub mod Ways

@@ -1,3 +1,4 @@
+pub mod Duals
 pub mod Meaning
 pub mod Refusal
 pub mod Turned

@@ -1,6 +1,7 @@
 ghost use mathlib.Core.Path.{_≡_};
 ghost use Prim.Native.Nat.{ℕ, _≤_};
 ghost use Rattle.std.specs.Orderings.{Decides};
+ghost use Rattle.machine.specs.Duals.{Duals, IsDual};
 ghost use Rattle.machine.specs.Meaning.{Meaning, Lawful};
 ghost use Rattle.machine.specs.Turned.{Turned};
 use crate::fault::Fault;
@@ -56,4 +57,15 @@ pub trait Machine {
     // Makes turn k, or refuses it and changes nothing.
     fn turn(&mut self, k: u8) -> Result<(), Fault>
         ensures { λ r. ⌜ Turned meaning state (now (self .entry)) k r (now (self .exit)) ⌝ };
+}
+
+// A machine with a dual: the places and the numbers of its trays change parts. `mirror` says which state the dual is in.
+pub trait Dual: Machine {
+    ghost mirror: { Self·State → Self·State };
+
+    law duals: { Duals (Self·Machine .meaning) mirror };
+
+    // A list of turns brings this machine home exactly when the list read backwards brings the dual home; the dual of the dual is this machine.
+    fn dual(&self) -> Self
+        ensures { λ r. ⌜ IsDual (Self·Machine .meaning) mirror (Self·Machine .state (now (self .entry))) (Self·Machine .state r) ⌝ };
 }

@@ -8,6 +8,7 @@ pub use fault::Fault;
 pub use fault::FaultDebug;
 pub use fault::FaultPartialEq;
 pub use following::follow;
+pub use interface::Dual;
 pub use interface::Machine;
 pub use interface::TurnRange;
 pub use interface::TurnRangeDebug;

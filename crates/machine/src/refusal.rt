@@ -9,6 +9,7 @@ impl Fault {
     {
         match self {
             Fault::TrayCount => 6,
+            Fault::Span => 7,
             Fault::TrayNumber(_) => 8,
             Fault::TrayRepeated(_) => 9,
             Fault::TrayBeyond(_) => 10,
@@ -22,7 +23,7 @@ impl Fault {
     {
         match self {
             Fault::TrayNumber(i) | Fault::TrayRepeated(i) | Fault::TrayBeyond(i) => Some(i),
-            Fault::TrayCount | Fault::NoSuchTurn => None,
+            Fault::TrayCount | Fault::Span | Fault::NoSuchTurn => None,
         }
     }
 }

@@ -1,17 +1,16 @@
-use mathlib.Core.Path.{_≡_, refl, _∙_, ap}
+use mathlib.Core.Path.{_≡_, refl}
 use mathlib.Core.HLevel.{isProp→PathP}
-use mathlib.Core.List.{List}
-use Prim.Native.Nat.{ℕ, _-_, _≤_, min}
+use Prim.Native.Nat.{_≤_}
 use native.Mathlib.Bridge.{le-prop}
 use native.Mathlib.Omega.{arith}
 use lib.Dec.{T, T-prop}
-use lib.ListN.{length}
-use Rattle.machine.specs.Meaning.{Lawful}
-use Rattle.reversal.specs.Reversed.{flipped, reversed-between, reversed-part}
+use Rattle.trays.specs.Form.{numeral, numeral-regular}
 use Rattle.trays.specs.Permutation.{permutation}
-use Rattle.trays.proofs.Exchange.{moved-back}
+use Rattle.trays.proofs.Kind.{Kind}
+use Rattle.trays.proofs.Permuting.{first-in-order}
+use Rattle.trays.proofs.Turning.{block-move, block-exchange}
 use Rattle.plain.specs.declared.tower.PlainTower.{PlainTower}
-use Rattle.plain.specs.Plain.{block, permuted, plain, turned, turn-exchange, turn-moves}
+use Rattle.plain.specs.Plain.{mirrored, permuted, plain, refitted, turn-moves}
 
 -- towers with the same trays are the same
 pub same-tower : (s t : PlainTower) → s .n ≡ t .n → s .trays ≡ t .trays → s ≡ t
@@ -20,24 +19,30 @@ same-tower s t p q = λ i. record {
   trays = q i;
   least = isProp→PathP (λ i. 1 ≤ p i) (λ i. le-prop) (s .least) (t .least) i;
   most = isProp→PathP (λ i. p i ≤ 32) (λ i. le-prop) (s .most) (t .most) i;
-  «each_once» = isProp→PathP (λ i. T (permutation (p i) (q i))) (λ i. T-prop (permutation (p i) (q i))) (s .«each_once») (t .«each_once») i;
+  «each_once» = isProp→PathP (λ i. T (permutation numeral (p i) (q i))) (λ i. T-prop (permutation numeral (p i) (q i))) (s .«each_once») (t .«each_once») i;
 }
 
-pub plain-lawful : Lawful plain
-plain-lawful = record {
+pub plain-kind : Kind numeral numeral-regular plain mirrored (λ s. s .n)
+plain-kind = record {
+  trays = λ s. s .trays;
+  count = λ n. n;
+  most = λ s. s .most;
+  permuted = permuted;
+  same = same-tower;
+  refitted = refitted;
+  refitted-base = λ s ys p. refl;
+  refitted-trays = λ s ys p. refl;
+  low = λ n. 2;
+  high = λ n. n;
+  lowest = λ s. refl;
+  highest = λ s. refl;
   from-one = λ s. omega arith;
   to-250 = λ s. let m = s .most in omega arith;
-  twice = λ s k r.
-      same-tower (turned (turned s k) k) s refl (moved-back (s .n) (turn-exchange s k) (s .trays) (turned s k .trays) (turned (turned s k) k .trays) (turn-moves s k) (turn-moves (turned s k) k));
-  same-lowest = λ s k r. refl;
-  same-highest = λ s k r. refl;
+  move = block-move;
+  exchange = λ s k. block-exchange (s .n) k;
+  after-base = λ s k. refl;
+  after-trays = turn-moves;
+  home = λ s. let m = s .most in let l = permuted s .long in first-in-order numeral numeral-regular (s .n) (s .trays) (omega arith);
+  mirror-base = λ s. refl;
+  mirror-trays = λ s. refl;
 }
-
--- what the reversal leaves is the block turned round
-pub block-turned : (s : PlainTower) (k : ℕ) (ys : List ℕ) → k ≤ s .n → ys ≡ reversed-part 0 k (s .trays) → ys ≡ flipped (block s k) (s .trays)
-block-turned s k ys le e =
-    let m = s .most in
-    let l = permuted s .long in
-    let a : min 0 (min k (length (s .trays))) ≡ 0 = omega arith in
-    let b : min k (length (s .trays)) - 0 ≡ block s k = omega arith in
-    e ∙ ap (λ (j : ℕ). reversed-between j (min k (length (s .trays))) (s .trays)) a ∙ ap (λ (j : ℕ). flipped j (s .trays)) b

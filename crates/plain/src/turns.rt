@@ -1,13 +1,17 @@
 ghost use mathlib.Core.Path.{_≡_};
 ghost use Prim.Native.Nat.{_≤_};
 ghost use lib.ListN.{take};
-ghost use Rattle.plain.specs.Plain.{plain, turned};
+ghost use Rattle.machine.specs.Duals.{IsDual};
+ghost use Rattle.plain.specs.Plain.{mirrored, plain, turned};
 use crate::tower::PlainTower;
+use machine::Dual;
 use machine::Fault;
 use machine::Machine;
 use machine::TurnRange;
 use reversal::reverse_part;
-use trays::is_rising;
+use trays::NumberTray;
+use trays::invert;
+use trays::is_in_order;
 
 impl PlainTower {
     // The trays from the top.
@@ -25,6 +29,16 @@ impl PlainTower {
         let mut trays = self.trays;
         reverse_part(&mut trays, 0, k as usize);
         PlainTower { n: self.n, trays }
+    }
+
+    // The tower whose trays and places have changed parts.
+    fn inverted(self) -> PlainTower
+        ensures { λ r. ⌜ IsDual plain mirrored self r ⌝ }
+    {
+        PlainTower {
+            n: self.n,
+            trays: invert(self.n, &self.trays),
+        }
     }
 }
 
@@ -59,7 +73,7 @@ pub impl Machine for PlainTower as PlainMachine {
     }
 
     fn is_home(&self) -> bool {
-        is_rising(self.trays())
+        is_in_order(self.trays())
     }
 
     fn turn(&mut self, k: u8) -> Result<(), Fault> {
@@ -68,5 +82,13 @@ pub impl Machine for PlainTower as PlainMachine {
         }
         *self = self.flipped(k);
         Ok(())
+    }
+}
+
+pub impl Dual for PlainTower as PlainDual {
+    ghost mirror = { mirrored };
+
+    fn dual(&self) -> PlainTower {
+        self.inverted()
     }
 }

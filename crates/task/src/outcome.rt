@@ -1,7 +1,10 @@
 use machine::Fault;
 use machine::Trace;
 use plain::PlainTower;
+use ring::TrayRing;
+use sided::SidedTower;
 use text::Expected;
+use text::Kind;
 
 // What came of a line.
 #[derive(Drop)]
@@ -10,16 +13,26 @@ pub enum Outcome {
     Nothing,
     // the word at this index, from 0, may not stand there, or the line ends there
     Misread(usize, Expected),
-    // the tower was not set
-    Refused(Fault),
-    // the tower was set, and its turns made as far as it has them
-    Followed(Course),
+    // a machine of this kind was not set
+    Refused(Kind, Fault),
+    // the machine was set, and the task done
+    Plain(Work<PlainTower>),
+    Sided(Work<SidedTower>),
+    Ring(Work<TrayRing>),
 }
 
-// A tower as it was set, the turns asked for, and what they led to.
+// A machine as it was set, and what was done with it.
 #[derive(Drop)]
-pub struct Course {
-    pub start: PlainTower,
-    pub turns: Vec<u8>,
-    pub trace: Trace<PlainTower>,
+pub struct Work<M> {
+    pub start: M,
+    pub done: Done<M>,
+}
+
+// What was done with a machine.
+#[derive(Drop)]
+pub enum Done<M> {
+    // these turns were made, as far as it has them
+    Followed(Vec<u8>, Trace<M>),
+    // its dual was asked for
+    Mirrored(M),
 }

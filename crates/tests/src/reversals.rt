@@ -1,12 +1,8 @@
 use reversal::reverse_part;
+use sided::SidedTray;
+use sided::SidedTrayDebug;
+use sided::SidedTrayPartialEq;
 use std::test::*;
-
-// A record to turn round, so that not only bytes are.
-#[derive(Clone, Copy, PartialEq, Eq, Debug)]
-struct Tray {
-    number: u8,
-    away: bool,
-}
 
 #[test]
 fn a_part() -> Result<(), Fail> {
@@ -31,11 +27,11 @@ fn any_bounds() -> Result<(), Fail> {
 
 #[test]
 fn records() -> Result<(), Fail> {
-    let a = Tray {
+    let a = SidedTray {
         number: 1,
         away: false,
     };
-    let b = Tray {
+    let b = SidedTray {
         number: 2,
         away: true,
     };

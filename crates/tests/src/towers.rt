@@ -1,3 +1,4 @@
+use crate::given::bytes;
 use machine::Ending;
 use machine::EndingDebug;
 use machine::EndingPartialEq;
@@ -12,17 +13,6 @@ use machine::follow;
 use plain::PlainMachine;
 use plain::PlainTower;
 use std::test::*;
-
-// The numbers as tray bytes, with 0 after the last.
-fn bytes(numbers: &[u8]) -> [u8; 32] {
-    let mut bytes = [0u8; 32];
-    for (i, number) in numbers.iter().enumerate() {
-        if i < 32 {
-            bytes[i] = *number;
-        }
-    }
-    bytes
-}
 
 // 32 to 1.
 fn falling() -> [u8; 32] {
@@ -140,11 +130,13 @@ fn a_refusal_changes_nothing() -> Result<(), Fail> {
 #[test]
 fn numbers_of_faults() -> Result<(), Fail> {
     check_eq(Fault::TrayCount.number(), 6)?;
+    check_eq(Fault::Span.number(), 7)?;
     check_eq(Fault::TrayNumber(4).number(), 8)?;
     check_eq(Fault::TrayRepeated(4).number(), 9)?;
     check_eq(Fault::TrayBeyond(4).number(), 10)?;
     check_eq(Fault::NoSuchTurn.number(), 11)?;
     check_eq(Fault::TrayBeyond(4).index(), Some(4))?;
+    check_eq(Fault::Span.index(), None)?;
     check_eq(Fault::TrayCount.index(), None)
 }
 

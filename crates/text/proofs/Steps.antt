@@ -9,10 +9,9 @@ use Rattle.std.specs.Of.Vec.{vec-items}
 use Rattle.std.proofs.shelf.Lists.{getD-default, take-all, take-more}
 use Rattle.text.specs.declared.reader.Reader.{Reader}
 use Rattle.text.specs.declared.request.Expected.{Expected}
-use Rattle.text.specs.declared.request.Expected.the-variants.{Turn}
 use Rattle.text.specs.declared.word.Word.{Word}
 use Rattle.text.specs.declared.word.Word.the-variants.{Other}
-use Rattle.text.specs.Lines.{Begun, Stuck, mayStand, written}
+use Rattle.text.specs.Lines.{Stuck, mayEnd, mayStand}
 use Rattle.text.specs.Readers.{Begins, Stepped}
 
 pub read-more : (before after : Reader) (words : List Word) (at : ℕ) (d : Word) (fits : Bool) → at < length words → fits ≡ true → Stepped before (getD words at d) fits after → Begins before (take at words) → Begins after (take (at + 1) words)
@@ -29,26 +28,27 @@ stuck-at before after words at d fits lt not′ step h =
     let wrong : mayStand (after .expected) (getD words at Other) ≡ false =
     ap (λ (e : Expected). mayStand e (getD words at Other)) same ∙ ap (mayStand (before .expected)) (sym word) ∙ stepped .0 in
     record {
-      trays = vec-items (before .request .trays);
-      count = before .request .count;
-      turns = vec-items (before .request .turns);
-      begun = subst (λ (e : Expected). Begun e (vec-items (before .request .trays)) (before .request .count) (vec-items (before .request .turns)) (take at words)) (sym same) h;
+      kind = after .kind;
+      trays = vec-items (after .trays);
+      count = after .count;
+      span = after .span;
+      turns = vec-items (after .turns);
+      begun = subst (λ (r : Reader). Begins r (take at words)) (sym (stepped .1)) h;
       wrong = inl (lt, wrong);
     }
 
 module _ (r : Reader) (words : List Word) (at : ℕ) (end : length words ≤ at) (h : Begins r (take at words)) where
-  all : Begins r words
-  all = subst (Begins r) (take-all at words end) h
-
-  pub read-whole : r .expected ≡ Turn → words ≡ written (vec-items (r .request .trays)) (r .request .count) (vec-items (r .request .turns))
-  read-whole is = subst (λ (e : Expected). Begun e (vec-items (r .request .trays)) (r .request .count) (vec-items (r .request .turns)) words) is all
+  pub read-whole : Begins r words
+  read-whole = subst (Begins r) (take-all at words end) h
 
   -- the line ends too early
-  pub stuck-end : (r .expected ≡ Turn → ⊥) → Stuck words (length words) (r .expected)
+  pub stuck-end : mayEnd (r .expected) ≡ false → Stuck words (length words) (r .expected)
   stuck-end not′ = record {
-    trays = vec-items (r .request .trays);
-    count = r .request .count;
-    turns = vec-items (r .request .turns);
-    begun = subst (Begins r) (sym (take-all (length words) words (omega arith))) all;
+    kind = r .kind;
+    trays = vec-items (r .trays);
+    count = r .count;
+    span = r .span;
+    turns = vec-items (r .turns);
+    begun = subst (Begins r) (sym (take-all (length words) words (omega arith))) read-whole;
     wrong = inr (refl, not′);
   }

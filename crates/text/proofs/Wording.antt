@@ -1,10 +1,35 @@
 use mathlib.Core.Path.{_≡_, sym, _∙_, ap, subst}
 use mathlib.Core.List.{List, [], _∷_, _++_, append-assoc, append-nil}
 use Prim.Native.Nat.{ℕ, _<_}
-use lib.ListN.{length}
+use native.Mathlib.Omega.{arith}
+use lib.ListN.{length, getD, drop}
+use Rattle.std.specs.declared.option.Option.{Option}
+use Rattle.std.specs.declared.result.Result.{Result}
+use Rattle.std.specs.declared.result.Result.the-variants.{Ok, Err}
+use Rattle.std.specs.Options.{Cases}
+use Rattle.std.specs.Reads.{Digits, ReadsUnsigned}
+use Rattle.std.specs.Results.{okPart}
 use Rattle.std.specs.Words.{white, dark, Without, Opens}
+use Rattle.std.proofs.shelf.Numerals.{numerals-by-value, parse-plain, tells-digits}
 use Rattle.text.specs.declared.word.Word.{Word}
-use Rattle.text.specs.Words.{Spells, Cut, Words}
+use Rattle.text.specs.Words.{IsAway, IsUnsigned, Spells, Cut, Words}
+
+-- The number that digits with no sign write, or none.
+abbrev pub Unsigned : List ℕ → Option ℕ → Type 0
+Unsigned bs o = Cases o ((n : ℕ) → IsUnsigned bs n → n < 256 → ⊥) (IsUnsigned bs)
+
+pub digits-read : (E : Type 0) (bs : List ℕ) (r : Result ℕ E) → (getD bs 0 0 ≡ 43 → ⊥) → ReadsUnsigned 8 10 bs r → Unsigned bs (okPart r)
+digits-read E bs (Ok n) plain h =
+    let read = parse-plain (numerals-by-value (Digits 10) tells-digits) {E = E} 8 bs (Ok n) h plain in
+    ((read .0 .1, read .0 .0), sym (read .1))
+digits-read E bs (Err e) plain h =
+    λ n is lt. parse-plain (numerals-by-value (Digits 10) tells-digits) {E = E} 8 bs (Err e) h plain (is .0 .1, is .0 .0, omega (arith, is .1))
+
+-- no digits stand after the minus sign
+pub away-none : (bs ds : List ℕ) → bs ≡ 45 ∷ ds → ((n : ℕ) → IsUnsigned ds n → n < 256 → ⊥) → (n : ℕ) → IsAway bs n → ⊥
+away-none bs ds split none n h =
+    let same : h .0 ≡ ds = ap (drop 1) (sym (h .1) ∙ split) in
+    none n (subst (λ (l : List ℕ). IsUnsigned l n) same (h .2)) (omega (arith, h .3))
 
 -- The words of `rest`, put after these, are the words of the line.
 abbrev pub ReadTo : List ℕ → List Word → List ℕ → Type 0

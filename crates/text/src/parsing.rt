@@ -1,17 +1,20 @@
 ghost use mathlib.Core.Path.{_≡_};
 ghost use mathlib.Core.Bool.{true};
-ghost use mathlib.Core.List.{[]};
+ghost use mathlib.Core.List.{List, []};
+ghost use Prim.Native.Nat.{_+_, _<_};
 ghost use Rattle.std.specs.Of.Vec.{vec-items};
 ghost use Rattle.std.specs.Vec.{made};
 ghost use Rattle.std.specs.declared.result.Result.the-variants.{Ok, Err};
 ghost use Rattle.text.specs.declared.word.Word.the-variants.{Number};
-ghost use Rattle.text.specs.Lines.{Misreads, mayStand, written};
-ghost use Rattle.text.specs.Readers.{Begins, ReadAll, Stepped};
+ghost use Rattle.text.specs.Lines.{Misreads, Written, asked, mayEnd, mayStand};
+ghost use Rattle.text.specs.Readers.{Asks, Begins, ReadAll, Stepped, after-count, after-kind};
 use crate::reader::Reader;
 use crate::request::Expected;
 use crate::request::Misread;
 use crate::request::MisreadFromAlloc;
 use crate::request::Request;
+use crate::request::Task;
+use crate::word::Kind;
 use crate::word::Word;
 use std::alloc::AllocError;
 use std::alloc::Global;
@@ -22,14 +25,47 @@ impl Expected {
         ensures { λ r. ⌜ r ≡ mayStand self word ⌝ }
     {
         match word {
-            Word::Plain => matches!(self, Expected::Kind),
-            Word::Count => matches!(self, Expected::Tray),
-            Word::Turns => matches!(self, Expected::Tray | Expected::TurnsWord),
+            Word::Kind(_) => matches!(self, Expected::Kind),
+            Word::Count => matches!(self, Expected::Tray | Expected::RingTray),
+            Word::Span => matches!(self, Expected::RingTray | Expected::SpanWord),
+            Word::Turns | Word::Dual => matches!(self, Expected::Tray | Expected::TaskWord),
             Word::Number(_) => matches!(
                 self,
-                Expected::Tray | Expected::CountNumber | Expected::Turn
+                Expected::Tray
+                    | Expected::RingTray
+                    | Expected::CountNumber
+                    | Expected::SpanNumber
+                    | Expected::Turn
             ),
+            Word::Away(n) => n < 128 && matches!(self, Expected::Tray | Expected::RingTray),
             Word::Other => false,
+        }
+    }
+
+    // Whether the line may end here.
+    fn may_end(self) -> bool
+        ensures { λ r. ⌜ r ≡ mayEnd self ⌝ }
+    {
+        matches!(self, Expected::Turn | Expected::End)
+    }
+
+    // What is expected after the kind.
+    fn after_kind(kind: Kind) -> Expected
+        ensures { λ r. ⌜ r ≡ after-kind kind ⌝ }
+    {
+        match kind {
+            Kind::Plain | Kind::Sided => Expected::Tray,
+            Kind::Ring => Expected::RingTray,
+        }
+    }
+
+    // What is expected after the count of the trays.
+    fn after_count(kind: Kind) -> Expected
+        ensures { λ r. ⌜ r ≡ after-count kind ⌝ }
+    {
+        match kind {
+            Kind::Plain | Kind::Sided => Expected::TaskWord,
+            Kind::Ring => Expected::SpanWord,
         }
     }
 }
@@ -38,13 +74,12 @@ impl Reader {
     fn new(heap: Global) -> Reader
         ensures { λ r. ⌜ Begins r [] ⌝ }
     {
-        let request = Request {
+        Reader {
+            kind: Kind::Plain,
             trays: Vec::new(heap),
             count: None,
+            span: None,
             turns: Vec::new(heap),
-        };
-        Reader {
-            request,
             expected: Expected::Kind,
         }
     }
@@ -59,10 +94,10 @@ impl Reader {
                 return Ok(Some(at));
             }
         }
-        match self.expected {
-            Expected::Turn => Ok(None),
-            _ => Ok(Some(words.len())),
+        if !self.expected.may_end() {
+            return Ok(Some(words.len()));
         }
+        Ok(None)
     }
 
     // Takes the next word, or answers false where it may not stand here.
@@ -73,10 +108,16 @@ impl Reader {
             return Ok(false);
         }
         match word {
-            Word::Plain => self.expected = Expected::Tray,
+            Word::Kind(kind) => {
+                self.kind = kind;
+                self.expected = Expected::after_kind(kind);
+            }
             Word::Count => self.expected = Expected::CountNumber,
+            Word::Span => self.expected = Expected::SpanNumber,
             Word::Turns => self.expected = Expected::Turn,
+            Word::Dual => self.expected = Expected::End,
             Word::Number(n) => self.take(n)?,
+            Word::Away(n) => self.trays.push(away_tray(n))?,
             Word::Other => {}
         }
         Ok(true)
@@ -87,25 +128,63 @@ impl Reader {
         ensures { λ r. ⌜ made r (λ _. (mayStand (now (self .entry) .expected) (Number n) ≡ true → Stepped (now (self .entry)) (Number n) true (now (self .exit)))) ⌝ }
     {
         match self.expected {
-            Expected::Tray => self.request.trays.push(n)?,
+            Expected::Tray | Expected::RingTray => self.trays.push(n)?,
             Expected::CountNumber => {
-                self.request.count = Some(n);
-                self.expected = Expected::TurnsWord;
+                self.count = Some(n);
+                self.expected = Expected::after_count(self.kind);
             }
-            Expected::Turn => self.request.turns.push(n)?,
-            Expected::Kind | Expected::TurnsWord => {}
+            Expected::SpanNumber => {
+                self.span = Some(n);
+                self.expected = Expected::TaskWord;
+            }
+            Expected::Turn => self.turns.push(n)?,
+            _ => {}
         }
         Ok(())
     }
+
+    // The request that has been read.
+    fn finish(self) -> Request
+        requires { ⌜ mayEnd (self .expected) ≡ true ⌝ }
+        ensures { λ r. ⌜ ((ws : List Word) → Begins self ws → Asks ws r) ⌝ }
+    {
+        let Reader {
+            kind,
+            trays,
+            count,
+            span,
+            turns,
+            expected,
+        } = self;
+        let task = match expected {
+            Expected::Turn => Task::Turns(turns),
+            _ => Task::Dual,
+        };
+        Request {
+            kind,
+            trays,
+            count,
+            span,
+            task,
+        }
+    }
+}
+
+// The tray byte that n after a minus sign writes.
+fn away_tray(n: u8) -> u8
+    requires { ⌜ n < 128 ⌝ }
+    ensures { λ r. ⌜ r ≡ 128 + n ⌝ }
+{
+    128 + n
 }
 
 // The request that the words of a line make.
 pub fn parse(heap: Global, words: &[Word]) -> Result<Request, Misread>
-    ensures { λ r. ⌜ elim r [ Ok q ↦ now (words .entry) ≡ written (vec-items (q .trays)) (q .count) (vec-items (q .turns)) | Err m ↦ Misreads (now (words .entry)) m ] ⌝ }
+    ensures { λ r. ⌜ elim r [ Ok q ↦ Written (now (words .entry)) (q .kind) (vec-items (q .trays)) (q .count) (q .span) (asked (q .task)) | Err m ↦ Misreads (now (words .entry)) m ] ⌝ }
 {
     let mut reader = Reader::new(heap);
     if let Some(at) = reader.read(words)? {
         return Err(Misread::Unexpected(at, reader.expected));
     }
-    Ok(reader.request)
+    Ok(reader.finish())
 }

@@ -1,9 +1,13 @@
 use crate::request::Expected;
-use crate::request::Request;
+use crate::word::Kind;
 
-// A line half read: the request so far, and what is expected next.
+// A line half read: what has been read, and what is expected next. Before the first word the kind says nothing.
 #[derive(Drop)]
 pub(crate) struct Reader {
-    pub(crate) request: Request,
+    pub(crate) kind: Kind,
+    pub(crate) trays: Vec<u8>,
+    pub(crate) count: Option<u8>,
+    pub(crate) span: Option<u8>,
+    pub(crate) turns: Vec<u8>,
     pub(crate) expected: Expected,
 }

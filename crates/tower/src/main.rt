@@ -1,4 +1,5 @@
 mod answer;
+mod shown;
 
 use answer::answer;
 use std::error::AnyError;

@@ -3,7 +3,7 @@ use Prim.Native.Nat.{ℕ, zero, suc, _+_, _/_, _%_, _^_, _<_, max}
 use native.Mathlib.Nat.{pow-suc, zero-div, div-self}
 use native.Mathlib.Omega.{arith}
 use lib.Bits.{bitAnd, bitOr, and-step, and-zero-r, or-step, or-zero-r}
-use lib.Count.{ones, ones-step}
+use lib.Count.{ones, ones-step, ones-le}
 use Rattle.std.proofs.shelf.Bits.{pow-pos, shr-shr, or-shr}
 
 -- the binary digit of m at k
@@ -72,6 +72,24 @@ ones-or (suc k) m =
     let f = bit-next k m in
     let ih = ones-or k (m / 2) in
     omega arith
+
+-- n digits that are all counted are all set
+pub full : (n m : ℕ) → m < 2 ^ n → ones m ≡ n → (v : ℕ) → v < n → bit v m ≡ 1
+full zero m lt e v h = absurd (omega arith)
+full (suc n) m lt e zero h =
+    let s = ones-step m in
+    let p = pow-suc 2 n in
+    let half : m / 2 < 2 ^ n = omega arith in
+    let le = ones-le n (m / 2) half in
+    let f = bit-first m in
+    omega arith
+full (suc n) m lt e (suc v) h =
+    let s = ones-step m in
+    let p = pow-suc 2 n in
+    let half : m / 2 < 2 ^ n = omega arith in
+    let le = ones-le n (m / 2) half in
+    let rest : ones (m / 2) ≡ n = omega arith in
+    bit-next v m ∙ full n (m / 2) half rest v (omega arith)
 
 -- the test of one digit, by a mask
 pub and-mark : (k m : ℕ) → (bitAnd m (2 ^ k) ≡ 0 → bit k m ≡ 0) × (bit k m ≡ 0 → bitAnd m (2 ^ k) ≡ 0)

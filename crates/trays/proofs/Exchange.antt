@@ -1,48 +1,58 @@
-use mathlib.Core.Path.{_≡_, sym, _∙_, ap}
+use mathlib.Core.Path.{_≡_, sym, _∙_, ap, ap₂}
+use mathlib.Core.Bool.{Bool, false}
 use mathlib.Core.List.{List}
 use Prim.Native.Nat.{ℕ, _≤_, _<_}
 use native.Mathlib.Omega.{arith}
-use lib.ListN.{length, getD}
+use lib.ListN.{length}
 use Rattle.std.proofs.shelf.Lists.{ext-getD}
-use Rattle.reversal.specs.Reversed.{flipped}
-use Rattle.reversal.proofs.Flip.{flip, flip-high, flip-twice, flip-within, length-flipped, getD-flipped}
+use Rattle.trays.specs.Form.{TrayForm, Regular, tray-at}
 use Rattle.trays.proofs.Permuting.{Permutation}
 
--- An exchange of the first n places, which undoes itself.
-pub record Exchange (n : ℕ) : Type 0 where
+-- What a turn does with the places: which place each one changes with, and whether the tray that comes there is turned over.
+pub record Move : Type 0 where
   pub to : ℕ → ℕ
-  pub twice : (i : ℕ) → to (to i) ≡ i
-  pub within : (i : ℕ) → i < n → to i < n
-  pub beyond : (i : ℕ) → n ≤ i → to i ≡ i
+  pub over : ℕ → Bool
 
--- ys is xs with its places exchanged
-pub record Moved (to : ℕ → ℕ) (xs ys : List ℕ) : Type 0 where
-  pub long : length ys ≡ length xs
-  pub at : (i : ℕ) → getD ys i 0 ≡ getD xs (to i) 0
+-- A move of the first n places that undoes itself.
+pub record Exchange (n : ℕ) (v : Move) : Type 0 where
+  pub twice : (i : ℕ) → v .to (v .to i) ≡ i
+  pub within : (i : ℕ) → i < n → v .to i < n
+  pub beyond : (i : ℕ) → n ≤ i → v .to i ≡ i
+  pub over-both : (i : ℕ) → v .over (v .to i) ≡ v .over i
+  pub over-none : (i : ℕ) → n ≤ i → v .over i ≡ false
 
--- the same exchange twice leads back
-pub moved-back : (n : ℕ) (x : Exchange n) (xs ys zs : List ℕ) → Moved (x .to) xs ys → Moved (x .to) ys zs → zs ≡ xs
-moved-back n x xs ys zs m w =
-    ext-getD 0 zs xs (w .long ∙ m .long) (λ i _. w .at i ∙ m .at (x .to i) ∙ ap (λ (j : ℕ). getD xs j 0) (x .twice i))
+module _ {A : Type 0} (f : TrayForm A) where
+  -- ys is xs after the move
+  pub record Moved (v : Move) (xs ys : List A) : Type 0 where
+    pub long : length ys ≡ length xs
+    pub at : (i : ℕ) → tray-at f ys i ≡ f .sided (v .over i) (tray-at f xs (v .to i))
 
--- an exchange keeps a permutation one
-pub moved-permutation : (n : ℕ) (x : Exchange n) (xs ys : List ℕ) → Moved (x .to) xs ys → Permutation n xs → Permutation n ys
-moved-permutation n x xs ys m s =
-    record {
-      long = m .long ∙ s .long;
-      ranged = λ i li.
-          let r = s .ranged (x .to i) (x .within i li) in
-          let e = m .at i in
-          (omega arith, omega arith);
-      apart = λ i j li lj e.
-          let q = s .apart (x .to i) (x .to j) (x .within i li) (x .within j lj) (sym (m .at i) ∙ e ∙ m .at j) in
-          sym (x .twice i) ∙ ap (x .to) q ∙ x .twice j;
-      blank = λ i ge. m .at i ∙ ap (λ (j : ℕ). getD xs j 0) (x .beyond i ge) ∙ s .blank i ge;
-    }
+module _ {A : Type 0} (f : TrayForm A) (reg : Regular f) (n : ℕ) (v : Move) (x : Exchange n v) where
+  -- what stood at place i stands, turned over or not, at the place that i changes with
+  pub moved-from : (xs ys : List A) → Moved f v xs ys → (i : ℕ) → tray-at f ys (v .to i) ≡ f .sided (v .over i) (tray-at f xs i)
+  moved-from xs ys m i = m .at (v .to i) ∙ ap₂ (λ (b : Bool) (j : ℕ). f .sided b (tray-at f xs j)) (x .over-both i) (x .twice i)
 
--- turning round the first k of n places
-abbrev pub flip-exchange : (n k : ℕ) → k ≤ n → Exchange n
-flip-exchange n k le = record { to = flip k; twice = flip-twice k; within = λ i lt. flip-within k n i le lt; beyond = λ i ge. flip-high k i (omega arith) }
+  -- the same move twice leads back
+  pub moved-back : (xs ys zs : List A) → Moved f v xs ys → Moved f v ys zs → zs ≡ xs
+  moved-back xs ys zs m w =
+      ext-getD (f .upright 0) zs xs (w .long ∙ m .long)
+      (λ i _. w .at i ∙ ap (f .sided (v .over i)) (moved-from xs ys m i) ∙ reg .sided-twice (v .over i) (tray-at f xs i))
 
-pub flipped-moved : (k : ℕ) (xs : List ℕ) → k ≤ length xs → Moved (flip k) xs (flipped k xs)
-flipped-moved k xs le = record { long = length-flipped k xs le; at = getD-flipped k xs 0 le }
+  -- a move keeps a permutation one
+  pub moved-permutation : (xs ys : List A) → Moved f v xs ys → Permutation f n xs → Permutation f n ys
+  moved-permutation xs ys m s =
+      let number : (i : ℕ) → f .number (tray-at f ys i) ≡ f .number (tray-at f xs (v .to i)) = λ i. ap (f .number) (m .at i) ∙ reg .number-sided (v .over i) (tray-at f xs (v .to i)) in
+      record {
+        long = m .long ∙ s .long;
+        ranged = λ i li.
+            let r = s .ranged (v .to i) (x .within i li) in
+            let e = number i in
+            (omega arith, omega arith);
+        apart = λ i j li lj e.
+            let q = s .apart (v .to i) (v .to j) (x .within i li) (x .within j lj) (sym (number i) ∙ e ∙ number j) in
+            sym (x .twice i) ∙ ap (v .to) q ∙ x .twice j;
+        blank = λ i ge.
+            m .at i ∙ ap₂ (λ (b : Bool) (j : ℕ). f .sided b (tray-at f xs j)) (x .over-none i ge) (x .beyond i ge)
+            ∙ reg .sided-not (tray-at f xs i)
+            ∙ s .blank i ge;
+      }

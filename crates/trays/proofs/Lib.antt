@@ -1,5 +1,13 @@
+pub mod Answering
 pub mod Bit
 pub mod Exchange
+pub mod Inverting
+pub mod Kind
+pub mod Laying
 pub mod Marking
 pub mod Permuting
 pub mod Places
+pub mod Placing
+pub mod Relabelled
+pub mod Running
+pub mod Turning

@@ -1,28 +1,34 @@
 use mathlib.Core.Path.{_≡_}
 use mathlib.Core.List.{List}
 use Prim.Native.Nat.{ℕ, _≤_, _<_}
-use lib.ListN.{getD}
 use Rattle.std.specs.declared.option.Option.{Option}
 use Rattle.std.specs.declared.option.Option.the-variants.{Some, None}
 use Rattle.machine.specs.declared.fault.Fault.{Fault}
-use Rattle.machine.specs.declared.fault.Fault.the-variants.{TrayCount, TrayNumber, TrayRepeated, TrayBeyond, NoSuchTurn}
+use Rattle.machine.specs.declared.fault.Fault.the-variants.{TrayCount, Span, TrayNumber, TrayRepeated, TrayBeyond, NoSuchTurn}
+use Rattle.trays.specs.Form.{TrayForm, number-at, tray-at}
 
--- The rules for the tray bytes xs of a machine of n trays. A place counts from 0.
+-- The rules for setting a machine of n trays. A place counts from 0.
 
 -- the number of trays is from the kind's least to 32
 abbrev pub Counted : ℕ → ℕ → Type 0
 Counted least n = (least ≤ n) × (n ≤ 32)
 
--- the number at place i is from 1 to n
-abbrev pub Numbered : ℕ → List ℕ → ℕ → Type 0
-Numbered n xs i = (1 ≤ getD xs i 0) × (getD xs i 0 ≤ n)
+-- a span, where the kind has one, is from 2 to n
+abbrev pub Spanned : ℕ → Option ℕ → Type 0
+Spanned n None = Unit {0}
+Spanned n (Some k) = (2 ≤ k) × (k ≤ n)
+
+-- the number at place i, of the numbers f by place, is from 1 to n
+abbrev pub Numbered : ℕ → (ℕ → ℕ) → ℕ → Type 0
+Numbered n f i = (1 ≤ f i) × (f i ≤ n)
 
 -- the number at place i stands at no earlier place
-abbrev pub New : List ℕ → ℕ → Type 0
-New xs i = (k : ℕ) → k < i → getD xs k 0 ≡ getD xs i 0 → ⊥
+abbrev pub New : (ℕ → ℕ) → ℕ → Type 0
+New f i = (k : ℕ) → k < i → f k ≡ f i → ⊥
 
-abbrev pub Blank : List ℕ → ℕ → Type 0
-Blank xs i = getD xs i 0 ≡ 0
+-- there is no tray at place i
+abbrev pub Blank : {A : Type 0} → TrayForm A → List A → ℕ → Type 0
+Blank f xs i = tray-at f xs i ≡ f .upright 0
 
 -- P at each place from low on and before high
 abbrev pub Each : (ℕ → Type 0) → ℕ → ℕ → Type 0
@@ -39,21 +45,23 @@ abbrev pub Found : (ℕ → Type 0) → ℕ → ℕ → Option ℕ → Type 0
 Found P low high None = Each P low high
 Found P low high (Some i) = First P low high i
 
--- Every rule is kept.
-pub record Accepted (least n : ℕ) (xs : List ℕ) : Type 0 where
+-- Every rule for the trays is kept.
+pub record Accepted {A : Type 0} (f : TrayForm A) (least n : ℕ) (xs : List A) : Type 0 where
   pub counted : Counted least n
-  pub numbered : Each (Numbered n xs) 0 n
-  pub new : Each (New xs) 0 n
-  pub blank : Each (Blank xs) n 32
+  pub numbered : Each (Numbered n (number-at f xs)) 0 n
+  pub new : Each (New (number-at f xs)) 0 n
+  pub blank : Each (Blank f xs) n 32
 
--- Why n and xs are refused: the first rule that is broken, and the first place that breaks it.
-abbrev pub Refused : ℕ → ℕ → List ℕ → Fault → Type 0
-Refused least n xs TrayCount = Counted least n → ⊥
-Refused least n xs (TrayNumber i) = Counted least n × First (Numbered n xs) 0 n i
-Refused least n xs (TrayRepeated i) = Counted least n × Each (Numbered n xs) 0 n × First (New xs) 0 n i
-Refused least n xs (TrayBeyond i) = Counted least n × Each (Numbered n xs) 0 n × Each (New xs) 0 n × First (Blank xs) n 32 i
-Refused least n xs NoSuchTurn = ⊥
+-- Why a setting is refused: the first rule that is broken, and the first place that breaks it.
+abbrev pub Refused : {A : Type 0} → TrayForm A → ℕ → ℕ → Option ℕ → List A → Fault → Type 0
+Refused f least n span xs TrayCount = Counted least n → ⊥
+Refused f least n span xs Span = Counted least n × (Spanned n span → ⊥)
+Refused f least n span xs (TrayNumber i) = Counted least n × Spanned n span × First (Numbered n (number-at f xs)) 0 n i
+Refused f least n span xs (TrayRepeated i) = Counted least n × Spanned n span × Each (Numbered n (number-at f xs)) 0 n × First (New (number-at f xs)) 0 n i
+Refused f least n span xs (TrayBeyond i) =
+    Counted least n × Spanned n span × Each (Numbered n (number-at f xs)) 0 n × Each (New (number-at f xs)) 0 n × First (Blank f xs) n 32 i
+Refused f least n span xs NoSuchTurn = ⊥
 
 -- The rules leave one answer: what is accepted is refused by nothing, and what is refused has one fault.
-abbrev pub OneAnswer : Type 0
-OneAnswer = (least n : ℕ) (xs : List ℕ) → (Accepted least n xs → (f : Fault) → Refused least n xs f → ⊥) × ((f g : Fault) → Refused least n xs f → Refused least n xs g → f ≡ g)
+abbrev pub OneAnswer : {A : Type 0} → TrayForm A → Type 0
+OneAnswer {A} t = (least n : ℕ) (span : Option ℕ) (xs : List A) → (Spanned n span → Accepted t least n xs → (f : Fault) → Refused t least n span xs f → ⊥) × ((f g : Fault) → Refused t least n span xs f → Refused t least n span xs g → f ≡ g)

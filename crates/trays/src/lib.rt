@@ -1,4 +1,12 @@
 mod check;
+mod first;
+mod inverse;
+mod order;
+mod tray;
 
 pub use check::check_trays;
-pub use check::is_rising;
+pub use first::home_trays;
+pub use inverse::invert;
+pub use order::is_in_order;
+pub use tray::NumberTray;
+pub use tray::Tray;

@@ -1,21 +1,18 @@
-use mathlib.Core.Path.{refl, _∙_, ap, subst}
-use mathlib.Core.List.{List, map, map-id}
-use Prim.Native.Nat.{ℕ}
-use lib.ListN.{getD}
-use Rattle.std.specs.Of.Vec.{vec-items}
-use Rattle.machine.specs.Follows.{Follows}
-use Rattle.plain.specs.declared.tower.PlainTower.{PlainTower}
-use Rattle.plain.specs.Plain.{plain}
+use Rattle.text.specs.declared.word.Kind.the-variants.{Plain, Sided, Ring}
+use Rattle.task.proofs.Settling.{made-more, no-span, settle}
 use Rattle.task.proofs.performing.carry_out.Needs as need
+
+pub returns-in-Plain : need.returns-in-Plain
+returns-in-Plain c =
+    let q = c .args .request in
+    made-more (c .on-plain .result) _ _ (λ o. settle q Plain (c .tray-count-n .result) 0 (c .tray-bytes-bytes .result) o (c .in-Plain .is) (c .tray-count-n .ensures) (c .tray-bytes-bytes .ensures) (no-span (q .span))) (c .on-plain .ensures)
+
+pub returns-in-Sided : need.returns-in-Sided
+returns-in-Sided c =
+    let q = c .args .request in
+    made-more (c .on-sided .result) _ _ (λ o. settle q Sided (c .tray-count-n .result) 0 (c .tray-bytes-bytes .result) o (c .in-Sided .is) (c .tray-count-n .ensures) (c .tray-bytes-bytes .ensures) (no-span (q .span))) (c .on-sided .ensures)
 
 pub returns : need.returns
 returns c =
-    let start = c .set .last .self in
-    let trace = c .in-Continue-trace .trace in
-    let set = c .in-rest .ensures tt in
-    let way = subst (λ (l : List ℕ). Follows plain start l (map (λ (s : PlainTower). s) (vec-items (trace .states))) (trace .ending)) (c .deref .ensures .value) (c .in-Continue-trace .ensures tt) in (
-      set .1 ∙ c .tray-count .ensures,
-      (λ k lt. ap (λ (l : List ℕ). getD l k 0) (set .2) ∙ c .tray-bytes .ensures k lt),
-      refl,
-      subst (λ (l : List PlainTower). Follows plain start (vec-items (c .args .request .turns)) l (trace .ending)) (map-id (vec-items (trace .states))) way,
-    )
+    let q = c .args .request in
+    made-more (c .on-ring .result) _ _ (λ o. settle q Ring (c .tray-count-n .result) (c .unwrap-or .result) (c .tray-bytes-bytes .result) o (c .in-Ring .is) (c .tray-count-n .ensures) (c .tray-bytes-bytes .ensures) (λ _. c .unwrap-or .ensures)) (c .on-ring .ensures)

@@ -1,0 +1,7 @@
+mod kind;
+mod set;
+mod turns;
+
+pub use kind::TrayRing;
+pub use turns::RingDual;
+pub use turns::RingMachine;

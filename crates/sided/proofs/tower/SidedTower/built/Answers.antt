@@ -1,0 +1,13 @@
+use mathlib.Core.Path.{_≡_}
+use borrow.Author.Needs.{needs}
+use lib.ListN.{length}
+use Rattle.sided.specs.Tray.{sided-tray, sided-regular}
+use Rattle.trays.proofs.Permuting.{from-accepted}
+use Rattle.sided.proofs.tower.SidedTower.built.Needs as need
+
+pub ghost-result : need.ghost-result
+ghost-result c =
+    let xs = c .args .trays in
+    let long : length xs ≡ 32 = search needs in
+    let count = c .pre .counted in
+    (count .0, (count .1, (from-accepted sided-tray sided-regular 1 (c .args .n) xs long (c .pre), tt)))
