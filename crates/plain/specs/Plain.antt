@@ -2,11 +2,13 @@ use Prim.Native.Nat.{ℕ, min}
 use mathlib.Core.List.{List}
 use native.Mathlib.Omega.{arith}
 use lib.ListN.{take}
+use Rattle.std.specs.declared.option.Option.the-variants.{None}
 use Rattle.machine.specs.Meaning.{Meaning}
 use Rattle.reversal.specs.Reversed.{flipped}
 use Rattle.reversal.proofs.Flip.{length-flipped, getD-flipped}
 use Rattle.trays.specs.Form.{numeral, numeral-regular}
 use Rattle.trays.specs.Permutation.{in-order, inverse}
+use Rattle.trays.specs.Setting.{Holding}
 use Rattle.trays.proofs.Exchange.{Moved, moved-permutation}
 use Rattle.trays.proofs.Inverting.{inverse-permutation}
 use Rattle.trays.proofs.Permuting.{Permutation, from-test, to-test}
@@ -42,3 +44,7 @@ plain = record { lowest = λ s. 2; highest = λ s. s .n; after = turned; home = 
 -- The dual: where place i holds tray j, place j holds tray i.
 abbrev pub mirrored : PlainTower → PlainTower
 mirrored s = refitted s (inverse numeral (s .n) (s .trays)) (inverse-permutation numeral numeral-regular (s .n) (s .trays) (permuted s) (s .most))
+
+-- What the tower holds.
+abbrev pub held : PlainTower → Holding ℕ
+held s = record { count = s .n; span = None; trays = s .trays }

@@ -1,4 +1,4 @@
-use mathlib.Core.Path.{_≡_, refl}
+use mathlib.Core.Path.{_≡_, refl, ap}
 use mathlib.Core.HLevel.{isProp→PathP}
 use Prim.Native.Nat.{ℕ, _≤_}
 use native.Mathlib.Bridge.{le-prop}
@@ -37,13 +37,8 @@ ring-kind = record {
   most = λ s. s .most;
   permuted = permuted;
   same = same-ring;
-  refitted = refitted;
-  refitted-base = λ s ys p. refl;
-  refitted-trays = λ s ys p. refl;
-  low = λ b. 1;
-  high = λ b. b .0;
-  lowest = λ s. refl;
-  highest = λ s. refl;
+  refitted = λ s ys p. (refitted s ys p, refl, refl);
+  range = λ s t e. (refl, ap (λ (b : ℕ × ℕ). b .0) e);
   from-one = λ s. omega arith;
   to-250 = λ s. let m = s .most in omega arith;
   move = λ b p. record { to = partner (b .0) (b .1) (start (b .0) p); over = λ i. false };

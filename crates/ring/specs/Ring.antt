@@ -2,10 +2,12 @@ use mathlib.Core.List.{List}
 use Prim.Native.Nat.{ℕ, _-_, _<_, min}
 use native.Mathlib.Omega.{arith}
 use lib.ListN.{take}
+use Rattle.std.specs.declared.option.Option.the-variants.{Some}
 use Rattle.machine.specs.Meaning.{Meaning}
 use Rattle.trays.specs.Form.{numeral, numeral-regular}
 use Rattle.trays.specs.Permutation.{in-order, inverse}
 use Rattle.trays.specs.Run.{run-turned}
+use Rattle.trays.specs.Setting.{Holding}
 use Rattle.trays.proofs.Exchange.{Exchange, Moved, moved-permutation}
 use Rattle.trays.proofs.Inverting.{inverse-permutation}
 use Rattle.trays.proofs.Permuting.{Permutation, from-test, to-test}
@@ -57,3 +59,7 @@ ring = record { lowest = λ s. 1; highest = λ s. s .n; after = turned; home = �
 -- The dual: where place i holds tray j, place j holds tray i; the span is the same.
 abbrev pub mirrored : TrayRing → TrayRing
 mirrored s = refitted s (inverse numeral (s .n) (s .trays)) (inverse-permutation numeral numeral-regular (s .n) (s .trays) (permuted s) (s .most))
+
+-- What the ring holds.
+abbrev pub held : TrayRing → Holding ℕ
+held s = record { count = s .n; span = Some (s .span); trays = s .trays }

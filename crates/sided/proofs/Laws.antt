@@ -29,13 +29,8 @@ sided-kind = record {
   most = λ s. s .most;
   permuted = permuted;
   same = same-tower;
-  refitted = refitted;
-  refitted-base = λ s ys p. refl;
-  refitted-trays = λ s ys p. refl;
-  low = λ n. 1;
-  high = λ n. n;
-  lowest = λ s. refl;
-  highest = λ s. refl;
+  refitted = λ s ys p. (refitted s ys p, refl, refl);
+  range = λ s t e. (refl, e);
   from-one = λ s. omega arith;
   to-250 = λ s. let m = s .most in omega arith;
   move = block-move;

@@ -2,10 +2,12 @@ use mathlib.Core.List.{List}
 use Prim.Native.Nat.{ℕ, min}
 use native.Mathlib.Omega.{arith}
 use lib.ListN.{take}
+use Rattle.std.specs.declared.option.Option.the-variants.{None}
 use Rattle.machine.specs.Meaning.{Meaning}
 use Rattle.reversal.specs.Reversed.{flipped}
 use Rattle.trays.specs.Permutation.{in-order, inverse}
 use Rattle.trays.specs.Sides.{turned-over}
+use Rattle.trays.specs.Setting.{Holding}
 use Rattle.trays.proofs.Exchange.{Moved, moved-permutation}
 use Rattle.trays.proofs.Inverting.{inverse-permutation}
 use Rattle.trays.proofs.Permuting.{Permutation, from-test, to-test}
@@ -44,3 +46,7 @@ sided = record { lowest = λ s. 1; highest = λ s. s .n; after = turned; home = 
 -- The dual: where place i holds tray j, place j holds tray i on the same side.
 abbrev pub mirrored : SidedTower → SidedTower
 mirrored s = refitted s (inverse sided-tray (s .n) (s .trays)) (inverse-permutation sided-tray sided-regular (s .n) (s .trays) (permuted s) (s .most))
+
+-- What the tower holds.
+abbrev pub held : SidedTower → Holding SidedTray
+held s = record { count = s .n; span = None; trays = s .trays }

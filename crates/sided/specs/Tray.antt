@@ -1,10 +1,12 @@
-use mathlib.Core.Path.{_≡_, refl, ap, ap₂}
+use mathlib.Core.Path.{_≡_, refl, _∙_, ap, ap₂}
+use mathlib.Core.Logic.{⊎-elim}
 use mathlib.Core.Bool.{Bool, true, false, cond, not, _&&_}
-use Prim.Native.Nat.{ℕ, _+_, _%_}
+use Prim.Native.Nat.{ℕ, _+_, _%_, _<_, _≤_}
+use native.Mathlib.Omega.{arith}
 use lib.Dec.{eqb, leb}
 use Rattle.std.specs.Orderings.{Decides}
 use Rattle.std.proofs.shelf.Ways.{decides-and, decides-eqb, decides-like}
-use Rattle.std.proofs.shelf.Tests.{not-true, not-from-false}
+use Rattle.std.proofs.shelf.Tests.{cases-lt, cond-false, cond-true, le-leb, lt-leb, not-true, not-from-false}
 use Rattle.trays.specs.Form.{TrayForm, Regular}
 use Rattle.sided.specs.declared.tray.SidedTray.{SidedTray}
 
@@ -27,6 +29,8 @@ sided-tray = record {
   stands = λ v t. eqb (t .number) v && not (t .away);
   renumbered = λ v t. record { number = v; away = t .away };
   sided = λ b t. record { number = t .number; away = changed b (t .away) };
+  read = from-byte;
+  byte = byte-of;
 }
 
 changed-twice : (b u : Bool) → changed b (changed b u) ≡ u
@@ -47,6 +51,13 @@ stands-decides v t =
     (λ e. (ap (λ (x : SidedTray). x .number) e, ap (λ (x : SidedTray). x .away) e))
     (decides-and (eqb (t .number) v) (not (t .away)) (decides-eqb (t .number) v) (not-true (t .away), not-from-false (t .away)))
 
+byte-read : (b : ℕ) → b < 256 → byte-of (from-byte b) ≡ b
+byte-read b lt =
+    ⊎-elim
+    (λ (low : b < 128). let rest : b % 128 + 0 ≡ b = omega arith in ap (λ (x : ℕ). b % 128 + x) (cond-false (leb 128 b) 128 0 (lt-leb 128 b low)) ∙ rest)
+    (λ (high : 128 ≤ b). let rest : b % 128 + 128 ≡ b = omega arith in ap (λ (x : ℕ). b % 128 + x) (cond-true (leb 128 b) 128 0 (le-leb 128 b high)) ∙ rest)
+    (cases-lt b 128)
+
 pub sided-regular : Regular sided-tray
 sided-regular = record {
   number-upright = λ v. refl;
@@ -60,4 +71,6 @@ sided-regular = record {
   sided-twice = λ b t. ap (λ (u : Bool). record { number = t .number; away = u }) (changed-twice b (t .away));
   sided-swap = λ a b t. ap (λ (u : Bool). record { number = t .number; away = u }) (changed-swap a b (t .away));
   sided-not = λ t. refl;
+  read-none = refl;
+  byte-read = byte-read;
 }

@@ -5,6 +5,7 @@ mod tray;
 mod turns;
 
 pub use form::SidedTrayForm;
+pub use set::SidedSetting;
 pub use tower::SidedTower;
 pub use tray::SidedTray;
 pub use tray::SidedTrayDebug;

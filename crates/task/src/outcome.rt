@@ -4,7 +4,6 @@ use plain::PlainTower;
 use ring::TrayRing;
 use sided::SidedTower;
 use text::Expected;
-use text::Kind;
 
 // What came of a line.
 #[derive(Drop)]
@@ -13,12 +12,10 @@ pub enum Outcome {
     Nothing,
     // the word at this index, from 0, may not stand there, or the line ends there
     Misread(usize, Expected),
-    // a machine of this kind was not set
-    Refused(Kind, Fault),
-    // the machine was set, and the task done
-    Plain(Work<PlainTower>),
-    Sided(Work<SidedTower>),
-    Ring(Work<TrayRing>),
+    // a machine of the kind was set and the task done, or it was not set
+    Plain(Result<Work<PlainTower>, Fault>),
+    Sided(Result<Work<SidedTower>, Fault>),
+    Ring(Result<Work<TrayRing>, Fault>),
 }
 
 // A machine as it was set, and what was done with it.

@@ -9,17 +9,21 @@ use machine::Machine;
 use machine::follow;
 use plain::PlainDual;
 use plain::PlainMachine;
+use plain::PlainSetting;
 use plain::PlainTower;
 use ring::RingDual;
 use ring::RingMachine;
+use ring::RingSetting;
 use ring::TrayRing;
 use sided::SidedDual;
 use sided::SidedMachine;
+use sided::SidedSetting;
 use sided::SidedTower;
 use sided::SidedTray;
 use sided::SidedTrayDebug;
 use sided::SidedTrayPartialEq;
 use std::test::*;
+use trays::Settable;
 
 // The turns end so, and read backwards they end so on the dual.
 fn check_backwards<M: Dual + Copy>(
@@ -39,7 +43,7 @@ fn check_backwards<M: Dual + Copy>(
 #[test]
 fn of_a_plain_tower(rt: LibcRuntime) -> Result<(), Fail> {
     let mut t = PlainTower::new();
-    t.set(3, &bytes(&[2, 3, 1]))?;
+    t.set(3, (), &bytes(&[2, 3, 1]))?;
     check_eq(t.dual().trays(), &[3, 1, 2])?;
     check_eq(t.dual().dual().trays(), &[2, 3, 1])?;
     check_backwards(&rt, t, &[3, 2], &[2, 3], Ending::NotHome)?;
@@ -49,7 +53,7 @@ fn of_a_plain_tower(rt: LibcRuntime) -> Result<(), Fail> {
 #[test]
 fn of_a_sided_tower(rt: LibcRuntime) -> Result<(), Fail> {
     let mut t = SidedTower::new();
-    t.set(3, &bytes(&[3, 129, 2]))?;
+    t.set(3, (), &bytes(&[3, 129, 2]))?;
     let dual = t.dual();
     check_eq(
         dual.trays(),
@@ -69,7 +73,7 @@ fn of_a_sided_tower(rt: LibcRuntime) -> Result<(), Fail> {
         ],
     )?;
     check_eq(dual.dual().trays(), t.trays())?;
-    t.set(3, &bytes(&[3, 1, 2]))?;
+    t.set(3, (), &bytes(&[3, 1, 2]))?;
     check_backwards(&rt, t, &[1, 3, 2], &[2, 3, 1], Ending::Home)?;
     check_backwards(&rt, t, &[2, 3, 1], &[1, 3, 2], Ending::NotHome)
 }

@@ -1,4 +1,6 @@
 use crate::given::bytes;
+use crate::given::check_refused;
+use crate::given::machine;
 use machine::Fault;
 use machine::FaultDebug;
 use machine::FaultPartialEq;
@@ -7,21 +9,14 @@ use machine::TurnRange;
 use machine::TurnRangeDebug;
 use machine::TurnRangePartialEq;
 use ring::RingMachine;
+use ring::RingSetting;
 use ring::TrayRing;
 use std::test::*;
+use trays::Settable;
 
 // A ring of n trays with this span, or the refusal.
 fn ring(n: u8, span: u8, numbers: &[u8]) -> Result<TrayRing, Fault> {
-    let mut ring = TrayRing::new();
-    ring.set(n, span, &bytes(numbers))?;
-    Ok(ring)
-}
-
-fn check_refused(n: u8, span: u8, numbers: &[u8], fault: Fault) -> Result<(), Fail> {
-    match ring(n, span, numbers) {
-        Ok(_) => Err(Fail::new("accepted")),
-        Err(f) => check_eq(f, fault),
-    }
+    machine(n, span, numbers)
 }
 
 // The trays after turn p.
@@ -82,21 +77,21 @@ fn runs_across_the_seam() -> Result<(), Fail> {
 fn limits() -> Result<(), Fail> {
     check(ring(4, 2, &[1, 2, 3, 4]).is_ok())?;
     check(ring(4, 4, &[1, 2, 3, 4]).is_ok())?;
-    check_refused(3, 2, &[1, 2, 3], Fault::TrayCount)?;
-    check_refused(33, 2, &[1, 2, 3], Fault::TrayCount)?;
-    check_refused(4, 1, &[1, 2, 3, 4], Fault::Span)?;
-    check_refused(4, 5, &[1, 2, 3, 4], Fault::Span)?;
-    check_refused(4, 0, &[1, 2, 3, 4], Fault::Span)
+    check_refused::<TrayRing>(3, 2, &[1, 2, 3], Fault::TrayCount)?;
+    check_refused::<TrayRing>(33, 2, &[1, 2, 3], Fault::TrayCount)?;
+    check_refused::<TrayRing>(4, 1, &[1, 2, 3, 4], Fault::Span)?;
+    check_refused::<TrayRing>(4, 5, &[1, 2, 3, 4], Fault::Span)?;
+    check_refused::<TrayRing>(4, 0, &[1, 2, 3, 4], Fault::Span)
 }
 
 #[test]
 fn the_earlier_number_wins() -> Result<(), Fail> {
-    check_refused(3, 9, &[1, 2, 3], Fault::TrayCount)?;
-    check_refused(4, 5, &[1, 2, 3, 5], Fault::Span)?;
-    check_refused(4, 2, &[1, 1, 3, 5], Fault::TrayNumber(3))?;
-    check_refused(4, 2, &[1, 1, 3, 4, 9], Fault::TrayRepeated(1))?;
-    check_refused(4, 2, &[1, 2, 3, 4, 9], Fault::TrayBeyond(4))?;
-    check_refused(4, 2, &[129, 2, 3, 4], Fault::TrayNumber(0))
+    check_refused::<TrayRing>(3, 9, &[1, 2, 3], Fault::TrayCount)?;
+    check_refused::<TrayRing>(4, 5, &[1, 2, 3, 5], Fault::Span)?;
+    check_refused::<TrayRing>(4, 2, &[1, 1, 3, 5], Fault::TrayNumber(3))?;
+    check_refused::<TrayRing>(4, 2, &[1, 1, 3, 4, 9], Fault::TrayRepeated(1))?;
+    check_refused::<TrayRing>(4, 2, &[1, 2, 3, 4, 9], Fault::TrayBeyond(4))?;
+    check_refused::<TrayRing>(4, 2, &[129, 2, 3, 4], Fault::TrayNumber(0))
 }
 
 #[test]

@@ -1,4 +1,6 @@
 use crate::given::bytes;
+use crate::given::check_refused;
+use crate::given::machine;
 use machine::Fault;
 use machine::FaultDebug;
 use machine::FaultPartialEq;
@@ -7,11 +9,15 @@ use machine::TurnRange;
 use machine::TurnRangeDebug;
 use machine::TurnRangePartialEq;
 use sided::SidedMachine;
+use sided::SidedSetting;
 use sided::SidedTower;
 use sided::SidedTray;
 use sided::SidedTrayDebug;
+use sided::SidedTrayForm;
 use sided::SidedTrayPartialEq;
 use std::test::*;
+use trays::Settable;
+use trays::Tray;
 
 fn door_here(number: u8) -> SidedTray {
     SidedTray {
@@ -26,16 +32,7 @@ fn door_away(number: u8) -> SidedTray {
 
 // A tower of n trays, or the refusal.
 fn tower(n: u8, numbers: &[u8]) -> Result<SidedTower, Fault> {
-    let mut tower = SidedTower::new();
-    tower.set(n, &bytes(numbers))?;
-    Ok(tower)
-}
-
-fn check_refused(n: u8, numbers: &[u8], fault: Fault) -> Result<(), Fail> {
-    match tower(n, numbers) {
-        Ok(_) => Err(Fail::new("accepted")),
-        Err(f) => check_eq(f, fault),
-    }
+    machine(n, (), numbers)
 }
 
 #[test]
@@ -88,21 +85,21 @@ fn numbers_in_order_with_a_door_away() -> Result<(), Fail> {
 
 #[test]
 fn refusals() -> Result<(), Fail> {
-    check_refused(0, &[], Fault::TrayCount)?;
-    check_refused(33, &[1], Fault::TrayCount)?;
-    check_refused(1, &[128], Fault::TrayNumber(0))?;
-    check_refused(2, &[1, 131], Fault::TrayNumber(1))?;
-    check_refused(2, &[1, 129], Fault::TrayRepeated(1))?;
-    check_refused(1, &[1, 130], Fault::TrayBeyond(1))?;
-    check_refused(1, &[129, 0, 128], Fault::TrayBeyond(2))?;
-    check_refused(3, &[1, 129, 4], Fault::TrayNumber(2))
+    check_refused::<SidedTower>(0, (), &[], Fault::TrayCount)?;
+    check_refused::<SidedTower>(33, (), &[1], Fault::TrayCount)?;
+    check_refused::<SidedTower>(1, (), &[128], Fault::TrayNumber(0))?;
+    check_refused::<SidedTower>(2, (), &[1, 131], Fault::TrayNumber(1))?;
+    check_refused::<SidedTower>(2, (), &[1, 129], Fault::TrayRepeated(1))?;
+    check_refused::<SidedTower>(1, (), &[1, 130], Fault::TrayBeyond(1))?;
+    check_refused::<SidedTower>(1, (), &[129, 0, 128], Fault::TrayBeyond(2))?;
+    check_refused::<SidedTower>(3, (), &[1, 129, 4], Fault::TrayNumber(2))
 }
 
 #[test]
 fn a_refusal_changes_nothing() -> Result<(), Fail> {
     let mut t = tower(2, &[130, 1])?;
-    check_eq(t.set(0, &bytes(&[1])), Err(Fault::TrayCount))?;
-    check_eq(t.set(2, &bytes(&[128, 1])), Err(Fault::TrayNumber(0)))?;
+    check_eq(t.set(0, (), &bytes(&[1])), Err(Fault::TrayCount))?;
+    check_eq(t.set(2, (), &bytes(&[128, 1])), Err(Fault::TrayNumber(0)))?;
     check_eq(t.trays(), &[door_away(2), door_here(1)])
 }
 

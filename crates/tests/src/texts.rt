@@ -132,7 +132,7 @@ fn misread_spans(rt: LibcRuntime) -> Result<(), Fail> {
 
 #[test]
 fn outcomes(rt: LibcRuntime) -> Result<(), Fail> {
-    let Outcome::Plain(work) = perform(rt.alloc(), "plain 1 3 2 turns 2 3 2")? else {
+    let Outcome::Plain(Ok(work)) = perform(rt.alloc(), "plain 1 3 2 turns 2 3 2")? else {
         return Err(Fail::new("not done"));
     };
     check_eq(work.start.trays(), &[1, 3, 2])?;
@@ -140,16 +140,15 @@ fn outcomes(rt: LibcRuntime) -> Result<(), Fail> {
         return Err(Fail::new("not followed"));
     };
     check_eq(trace.ending, Ending::Home)?;
-    let Outcome::Refused(kind, fault) = perform(rt.alloc(), "sided 1 -1 turns")? else {
+    let Outcome::Sided(Err(fault)) = perform(rt.alloc(), "sided 1 -1 turns")? else {
         return Err(Fail::new("not refused"));
     };
-    check_eq(kind, Kind::Sided)?;
     check_eq(fault, Fault::TrayRepeated(1))
 }
 
 #[test]
 fn duals_of_lines(rt: LibcRuntime) -> Result<(), Fail> {
-    let Outcome::Ring(work) = perform(rt.alloc(), "ring 3 1 4 2 span 3 dual")? else {
+    let Outcome::Ring(Ok(work)) = perform(rt.alloc(), "ring 3 1 4 2 span 3 dual")? else {
         return Err(Fail::new("not done"));
     };
     let Done::Mirrored(dual) = &work.done else {

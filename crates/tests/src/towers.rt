@@ -1,4 +1,6 @@
 use crate::given::bytes;
+use crate::given::check_refused;
+use crate::given::machine;
 use machine::Ending;
 use machine::EndingDebug;
 use machine::EndingPartialEq;
@@ -11,8 +13,10 @@ use machine::TurnRangeDebug;
 use machine::TurnRangePartialEq;
 use machine::follow;
 use plain::PlainMachine;
+use plain::PlainSetting;
 use plain::PlainTower;
 use std::test::*;
+use trays::Settable;
 
 // 32 to 1.
 fn falling() -> [u8; 32] {
@@ -25,16 +29,7 @@ fn falling() -> [u8; 32] {
 
 // A tower of n trays, or the refusal.
 fn tower(n: u8, numbers: &[u8]) -> Result<PlainTower, Fault> {
-    let mut tower = PlainTower::new();
-    tower.set(n, &bytes(numbers))?;
-    Ok(tower)
-}
-
-fn check_refused(n: u8, numbers: &[u8], fault: Fault) -> Result<(), Fail> {
-    match tower(n, numbers) {
-        Ok(_) => Err(Fail::new("accepted")),
-        Err(f) => check_eq(f, fault),
-    }
+    machine(n, (), numbers)
 }
 
 #[test]
@@ -90,37 +85,37 @@ fn tray_counts() -> Result<(), Fail> {
     check(!t.is_home())?;
     t.turn(32)?;
     check(t.is_home())?;
-    check_refused(0, &[], Fault::TrayCount)?;
-    check_refused(33, &numbers, Fault::TrayCount)?;
-    check_refused(255, &numbers, Fault::TrayCount)
+    check_refused::<PlainTower>(0, (), &[], Fault::TrayCount)?;
+    check_refused::<PlainTower>(33, (), &numbers, Fault::TrayCount)?;
+    check_refused::<PlainTower>(255, (), &numbers, Fault::TrayCount)
 }
 
 #[test]
 fn refusals() -> Result<(), Fail> {
-    check_refused(3, &[1, 0, 2], Fault::TrayNumber(1))?;
-    check_refused(3, &[4, 1, 2], Fault::TrayNumber(0))?;
-    check_refused(3, &[1, 255, 0], Fault::TrayNumber(1))?;
-    check_refused(3, &[3, 1, 3], Fault::TrayRepeated(2))?;
-    check_refused(4, &[2, 2, 1, 1], Fault::TrayRepeated(1))?;
-    check_refused(2, &[2, 1, 3], Fault::TrayBeyond(2))?;
-    check_refused(1, &[1, 0, 0, 9, 9], Fault::TrayBeyond(3))
+    check_refused::<PlainTower>(3, (), &[1, 0, 2], Fault::TrayNumber(1))?;
+    check_refused::<PlainTower>(3, (), &[4, 1, 2], Fault::TrayNumber(0))?;
+    check_refused::<PlainTower>(3, (), &[1, 255, 0], Fault::TrayNumber(1))?;
+    check_refused::<PlainTower>(3, (), &[3, 1, 3], Fault::TrayRepeated(2))?;
+    check_refused::<PlainTower>(4, (), &[2, 2, 1, 1], Fault::TrayRepeated(1))?;
+    check_refused::<PlainTower>(2, (), &[2, 1, 3], Fault::TrayBeyond(2))?;
+    check_refused::<PlainTower>(1, (), &[1, 0, 0, 9, 9], Fault::TrayBeyond(3))
 }
 
 #[test]
 fn the_earlier_number_wins() -> Result<(), Fail> {
-    check_refused(0, &[7, 7], Fault::TrayCount)?;
-    check_refused(3, &[1, 1, 9], Fault::TrayNumber(2))?;
-    check_refused(3, &[1, 1, 2, 9], Fault::TrayRepeated(1))?;
-    check_refused(2, &[1, 3, 9], Fault::TrayNumber(1))
+    check_refused::<PlainTower>(0, (), &[7, 7], Fault::TrayCount)?;
+    check_refused::<PlainTower>(3, (), &[1, 1, 9], Fault::TrayNumber(2))?;
+    check_refused::<PlainTower>(3, (), &[1, 1, 2, 9], Fault::TrayRepeated(1))?;
+    check_refused::<PlainTower>(2, (), &[1, 3, 9], Fault::TrayNumber(1))
 }
 
 #[test]
 fn a_refusal_changes_nothing() -> Result<(), Fail> {
     let mut t = tower(3, &[2, 3, 1])?;
-    check_eq(t.set(0, &bytes(&[1])), Err(Fault::TrayCount))?;
-    check_eq(t.set(2, &bytes(&[1, 3])), Err(Fault::TrayNumber(1)))?;
-    check_eq(t.set(2, &bytes(&[1, 1])), Err(Fault::TrayRepeated(1)))?;
-    check_eq(t.set(2, &bytes(&[1, 2, 3])), Err(Fault::TrayBeyond(2)))?;
+    check_eq(t.set(0, (), &bytes(&[1])), Err(Fault::TrayCount))?;
+    check_eq(t.set(2, (), &bytes(&[1, 3])), Err(Fault::TrayNumber(1)))?;
+    check_eq(t.set(2, (), &bytes(&[1, 1])), Err(Fault::TrayRepeated(1)))?;
+    check_eq(t.set(2, (), &bytes(&[1, 2, 3])), Err(Fault::TrayBeyond(2)))?;
     check_eq(t.turn(1), Err(Fault::NoSuchTurn))?;
     check_eq(t.turn(4), Err(Fault::NoSuchTurn))?;
     check_eq(t.turn(255), Err(Fault::NoSuchTurn))?;

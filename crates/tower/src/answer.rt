@@ -18,15 +18,26 @@ pub(crate) fn answer(rt: &LibcRuntime, line: &str) -> io::Result<()> {
     match perform(rt.alloc(), line)? {
         Outcome::Nothing => Ok(()),
         Outcome::Misread(at, expected) => explain(rt, line, at, expected),
-        Outcome::Refused(kind, fault) => refuse(rt, kind, fault, None),
-        Outcome::Plain(work) => show(rt, Kind::Plain, &work),
-        Outcome::Sided(work) => show(rt, Kind::Sided, &work),
-        Outcome::Ring(work) => show(rt, Kind::Ring, &work),
+        Outcome::Plain(attempt) => show(rt, Kind::Plain, &attempt),
+        Outcome::Sided(attempt) => show(rt, Kind::Sided, &attempt),
+        Outcome::Ring(attempt) => show(rt, Kind::Ring, &attempt),
+    }
+}
+
+// Prints what came of setting a machine.
+fn show<M: Shown>(
+    rt: &LibcRuntime,
+    kind: Kind,
+    attempt: &Result<Work<M>, Fault>,
+) -> io::Result<()> {
+    match attempt {
+        Ok(work) => show_work(rt, kind, work),
+        Err(fault) => refuse(rt, kind, *fault, None),
     }
 }
 
 // Prints the machine and what was done with it.
-fn show<M: Shown>(rt: &LibcRuntime, kind: Kind, work: &Work<M>) -> io::Result<()> {
+fn show_work<M: Shown>(rt: &LibcRuntime, kind: Kind, work: &Work<M>) -> io::Result<()> {
     let machine = work.start.described(rt.alloc())?;
     println!(rt, "{machine}")?;
     match &work.done {

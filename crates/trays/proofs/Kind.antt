@@ -20,15 +20,10 @@ pub record Kind {A B S : Type 0} (f : TrayForm A) (reg : Regular f) (m : Meaning
   pub most : (s : S) → count (base s) ≤ 32
   pub permuted : (s : S) → Permutation f (count (base s)) (trays s)
   pub same : (s t : S) → base s ≡ base t → trays s ≡ trays t → s ≡ t
-  -- the machine with other trays
-  pub refitted : (s : S) (ys : List A) → Permutation f (count (base s)) ys → S
-  pub refitted-base : (s : S) (ys : List A) (p : Permutation f (count (base s)) ys) → base (refitted s ys p) ≡ base s
-  pub refitted-trays : (s : S) (ys : List A) (p : Permutation f (count (base s)) ys) → trays (refitted s ys p) ≡ ys
+  -- there is a machine for every order of the trays
+  pub refitted : (s : S) (ys : List A) → Permutation f (count (base s)) ys → (t : S) × (base t ≡ base s) × (trays t ≡ ys)
   -- its turns
-  pub low : B → ℕ
-  pub high : B → ℕ
-  pub lowest : (s : S) → m .lowest s ≡ low (base s)
-  pub highest : (s : S) → m .highest s ≡ high (base s)
+  pub range : (s t : S) → base t ≡ base s → (m .lowest t ≡ m .lowest s) × (m .highest t ≡ m .highest s)
   pub from-one : (s : S) → 1 ≤ m .lowest s
   pub to-250 : (s : S) → m .highest s ≤ 250
   pub move : B → ℕ → Move
@@ -44,13 +39,6 @@ module _ {A B S : Type 0} (f : TrayForm A) (reg : Regular f) (m : Meaning S) (mi
   abbrev n : S → ℕ
   n s = k .count (base s)
 
-  -- states of one base have the same turns
-  same-low : (s t : S) → base t ≡ base s → m .lowest t ≡ m .lowest s
-  same-low s t e = k .lowest t ∙ ap (k .low) e ∙ sym (k .lowest s)
-
-  same-high : (s t : S) → base t ≡ base s → m .highest t ≡ m .highest s
-  same-high s t e = k .highest t ∙ ap (k .high) e ∙ sym (k .highest s)
-
   turn-twice : (s : S) (j : ℕ) → m .after (m .after s j) j ≡ s
   turn-twice s j =
       let t = m .after s j in
@@ -63,22 +51,25 @@ module _ {A B S : Type 0} (f : TrayForm A) (reg : Regular f) (m : Meaning S) (mi
     from-one = k .from-one;
     to-250 = k .to-250;
     twice = λ s j r. turn-twice s j;
-    same-lowest = λ s j r. same-low s (m .after s j) (k .after-base s j);
-    same-highest = λ s j r. same-high s (m .after s j) (k .after-base s j);
+    same-lowest = λ s j r. k .range s (m .after s j) (k .after-base s j) .0;
+    same-highest = λ s j r. k .range s (m .after s j) (k .after-base s j) .1;
   }
 
   -- the machine whose trays have their numbers moved as turn j moves the places
-  relabel : ℕ → S → S
-  relabel j s =
+  abbrev relabelling : (j : ℕ) (s : S) → (t : S) × (base t ≡ base s) × (k .trays t ≡ map (relabelled f (k .move (base s) j)) (k .trays s))
+  relabelling j s =
       k .refitted s (map (relabelled f (k .move (base s) j)) (k .trays s)) (relabelled-permutation f (k .move (base s) j) reg (n s) (k .exchange s j) (k .trays s) (k .permuted s))
+
+  relabel : ℕ → S → S
+  relabel j s = relabelling j s .0
 
   relabel-base : (j : ℕ) (s : S) → base (relabel j s) ≡ base s
   unfolding relabel
-  relabel-base j s = k .refitted-base s _ _
+  relabel-base j s = relabelling j s .1
 
   relabel-trays : (j : ℕ) (s : S) → k .trays (relabel j s) ≡ map (relabelled f (k .move (base s) j)) (k .trays s)
   unfolding relabel
-  relabel-trays j s = k .refitted-trays s _ _
+  relabel-trays j s = relabelling j s .2
 
   -- the same for a state of the same base
   relabel-like : (j : ℕ) (s t : S) → base t ≡ base s → k .trays (relabel j t) ≡ map (relabelled f (k .move (base s) j)) (k .trays t)
@@ -143,10 +134,10 @@ module _ {A B S : Type 0} (f : TrayForm A) (reg : Regular f) (m : Meaning S) (mi
   kind-relabelling : Relabelling m mirror
   kind-relabelling = record {
     relabel = relabel;
-    same-lowest = λ j s. same-low s (relabel j s) (relabel-base j s);
-    same-highest = λ j s. same-high s (relabel j s) (relabel-base j s);
-    mirror-lowest = λ s. same-low s (mirror s) (k .mirror-base s);
-    mirror-highest = λ s. same-high s (mirror s) (k .mirror-base s);
+    same-lowest = λ j s. k .range s (relabel j s) (relabel-base j s) .0;
+    same-highest = λ j s. k .range s (relabel j s) (relabel-base j s) .1;
+    mirror-lowest = λ s. k .range s (mirror s) (k .mirror-base s) .0;
+    mirror-highest = λ s. k .range s (mirror s) (k .mirror-base s) .1;
     mirror-turn = mirror-turn;
     commutes = commutes;
     relabel-home = relabel-home;

@@ -8,6 +8,7 @@ pub mod Marking
 pub mod Permuting
 pub mod Places
 pub mod Placing
+pub mod Reading
 pub mod Relabelled
 pub mod Running
 pub mod Turning

@@ -1,7 +1,7 @@
 use mathlib.Core.Path.{_≡_, refl}
 use mathlib.Core.Bool.{Bool, false}
 use mathlib.Core.List.{List}
-use Prim.Native.Nat.{ℕ}
+use Prim.Native.Nat.{ℕ, _<_}
 use lib.Dec.{eqb}
 use lib.ListN.{getD}
 use Rattle.std.specs.Orderings.{Decides}
@@ -18,6 +18,9 @@ pub record TrayForm (A : Type 0) : Type 0 where
   pub renumbered : ℕ → A → A
   -- on the other side where the flag says so
   pub sided : Bool → A → A
+  -- the tray that a byte stands for, and the byte of a tray
+  pub read : ℕ → A
+  pub byte : A → ℕ
 
 -- What every type of trays owes.
 pub record Regular {A : Type 0} (f : TrayForm A) : Type 0 where
@@ -32,6 +35,8 @@ pub record Regular {A : Type 0} (f : TrayForm A) : Type 0 where
   pub sided-twice : (b : Bool) (t : A) → f .sided b (f .sided b t) ≡ t
   pub sided-swap : (a b : Bool) (t : A) → f .sided a (f .sided b t) ≡ f .sided b (f .sided a t)
   pub sided-not : (t : A) → f .sided false t ≡ t
+  pub read-none : f .read 0 ≡ f .upright 0
+  pub byte-read : (b : ℕ) → b < 256 → f .byte (f .read b) ≡ b
 
 -- The tray at place i, counted from 0; past the end there is none.
 abbrev pub tray-at : {A : Type 0} → TrayForm A → List A → ℕ → A
@@ -43,7 +48,7 @@ number-at f xs i = f .number (tray-at f xs i)
 
 -- A tray that is its number and has no side.
 abbrev pub numeral : TrayForm ℕ
-numeral = record { number = λ t. t; upright = λ v. v; stands = λ v t. eqb t v; renumbered = λ v t. v; sided = λ b t. t }
+numeral = record { number = λ t. t; upright = λ v. v; stands = λ v t. eqb t v; renumbered = λ v t. v; sided = λ b t. t; read = λ b. b; byte = λ t. t }
 
 pub numeral-regular : Regular numeral
 numeral-regular = record {
@@ -58,4 +63,6 @@ numeral-regular = record {
   sided-twice = λ b t. refl;
   sided-swap = λ a b t. refl;
   sided-not = λ t. refl;
+  read-none = refl;
+  byte-read = λ b lt. refl;
 }

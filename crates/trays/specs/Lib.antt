@@ -1,5 +1,6 @@
 pub mod First
 pub mod Form
+pub mod Reading
 pub mod Run
 pub mod Setting
 pub mod Sides

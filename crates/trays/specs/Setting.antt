@@ -3,6 +3,8 @@ use mathlib.Core.List.{List}
 use Prim.Native.Nat.{ℕ, _≤_, _<_}
 use Rattle.std.specs.declared.option.Option.{Option}
 use Rattle.std.specs.declared.option.Option.the-variants.{Some, None}
+use Rattle.std.specs.declared.result.Result.{Result}
+use Rattle.std.specs.declared.result.Result.the-variants.{Ok, Err}
 use Rattle.machine.specs.declared.fault.Fault.{Fault}
 use Rattle.machine.specs.declared.fault.Fault.the-variants.{TrayCount, Span, TrayNumber, TrayRepeated, TrayBeyond, NoSuchTurn}
 use Rattle.trays.specs.Form.{TrayForm, number-at, tray-at}
@@ -65,3 +67,16 @@ Refused f least n span xs NoSuchTurn = ⊥
 -- The rules leave one answer: what is accepted is refused by nothing, and what is refused has one fault.
 abbrev pub OneAnswer : {A : Type 0} → TrayForm A → Type 0
 OneAnswer {A} t = (least n : ℕ) (span : Option ℕ) (xs : List A) → (Spanned n span → Accepted t least n xs → (f : Fault) → Refused t least n span xs f → ⊥) × ((f g : Fault) → Refused t least n span xs f → Refused t least n span xs g → f ≡ g)
+
+-- What a machine holds: how many trays, a span where the kind has one, and its 32 places.
+pub record Holding (A : Type 0) : Type 0 where
+  pub count : ℕ
+  pub span : Option ℕ
+  pub trays : List A
+
+-- What setting a machine from n, a span and the trays xs answers and leaves. Accepted: the machine holds them.
+-- Refused: why, and the machine is as it was.
+abbrev pub Sets : {M A U : Type 0} → TrayForm A → ℕ → (M → Holding A) → M → ℕ → Option ℕ → List A → Result U Fault → M → Type 0
+Sets f least holding before n span xs (Ok _) after =
+    Spanned n span × Accepted f least n xs × (holding after .count ≡ n) × (holding after .span ≡ span) × (holding after .trays ≡ xs)
+Sets f least holding before n span xs (Err fault) after = Refused f least n span xs fault × (after ≡ before)

@@ -13,6 +13,10 @@ pub trait Tray {
     fn upright(number: u8) -> Self
         ensures { λ r. ⌜ r ≡ form .upright number ⌝ };
 
+    // The tray that a byte stands for.
+    fn from_byte(byte: u8) -> Self
+        ensures { λ r. ⌜ r ≡ form .read byte ⌝ };
+
     fn number(&self) -> u8
         ensures { λ r. ⌜ r ≡ form .number (now (self .entry)) ⌝ };
 
@@ -31,6 +35,10 @@ pub impl Tray for u8 as NumberTray {
 
     fn upright(number: u8) -> u8 {
         number
+    }
+
+    fn from_byte(byte: u8) -> u8 {
+        byte
     }
 
     fn number(&self) -> u8 {
