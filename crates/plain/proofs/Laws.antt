@@ -4,7 +4,7 @@ use Prim.Native.Nat.{_≤_}
 use native.Mathlib.Bridge.{le-prop}
 use native.Mathlib.Omega.{arith}
 use lib.Dec.{T, T-prop}
-use Rattle.trays.specs.Form.{numeral, numeral-regular}
+use Rattle.trays.specs.Form.{number-tray, number-regular}
 use Rattle.trays.specs.Permutation.{permutation}
 use Rattle.trays.proofs.Kind.{Kind}
 use Rattle.trays.proofs.Permuting.{first-in-order}
@@ -19,10 +19,10 @@ same-tower s t p q = λ i. record {
   trays = q i;
   least = isProp→PathP (λ i. 1 ≤ p i) (λ i. le-prop) (s .least) (t .least) i;
   most = isProp→PathP (λ i. p i ≤ 32) (λ i. le-prop) (s .most) (t .most) i;
-  «each_once» = isProp→PathP (λ i. T (permutation numeral (p i) (q i))) (λ i. T-prop (permutation numeral (p i) (q i))) (s .«each_once») (t .«each_once») i;
+  «each_once» = isProp→PathP (λ i. T (permutation number-tray (p i) (q i))) (λ i. T-prop (permutation number-tray (p i) (q i))) (s .«each_once») (t .«each_once») i;
 }
 
-pub plain-kind : Kind numeral numeral-regular plain mirrored (λ s. s .n)
+pub plain-kind : Kind number-tray number-regular plain mirrored (λ s. s .n)
 plain-kind = record {
   trays = λ s. s .trays;
   count = λ n. n;
@@ -37,7 +37,7 @@ plain-kind = record {
   exchange = λ s k. block-exchange (s .n) k;
   after-base = λ s k. refl;
   after-trays = turn-moves;
-  home = λ s. let m = s .most in let l = permuted s .long in first-in-order numeral numeral-regular (s .n) (s .trays) (omega arith);
+  home = λ s. let m = s .most in let l = permuted s .long in first-in-order number-tray number-regular (s .n) (s .trays) (omega arith);
   mirror-base = λ s. refl;
   mirror-trays = λ s. refl;
 }

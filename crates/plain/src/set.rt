@@ -1,6 +1,6 @@
 ghost use mathlib.Core.Path.{_≡_};
 ghost use Rattle.std.specs.declared.option.Option.the-variants.{None};
-ghost use Rattle.trays.specs.Form.{numeral};
+ghost use Rattle.trays.specs.Form.{number-tray};
 ghost use Rattle.trays.specs.Setting.{Accepted};
 ghost use Rattle.plain.specs.Plain.{held};
 use crate::tower::PlainTower;
@@ -16,7 +16,7 @@ use trays::read_trays;
 impl PlainTower {
     // The tower of trays that have passed every check.
     fn built(n: u8, trays: [u8; 32]) -> PlainTower
-        requires { ⌜ Accepted numeral 1 n trays ⌝ }
+        requires { ⌜ Accepted number-tray 1 n trays ⌝ }
         ensures { λ r. ⌜ (r .n ≡ n) × (r .trays ≡ trays) ⌝ }
     {
         PlainTower { n, trays }
@@ -28,7 +28,7 @@ pub impl Settable for PlainTower as PlainSetting {
 
     type Span = ();
 
-    ghost form = { numeral };
+    ghost form = { number-tray };
 
     ghost spanning = { λ _. None };
 

@@ -5,7 +5,7 @@ use native.Mathlib.Bridge.{le-prop}
 use native.Mathlib.Omega.{arith}
 use lib.Dec.{T, T-prop}
 use mathlib.Core.Bool.{false}
-use Rattle.trays.specs.Form.{numeral, numeral-regular}
+use Rattle.trays.specs.Form.{number-tray, number-regular}
 use Rattle.trays.specs.Permutation.{permutation}
 use Rattle.trays.specs.Run.{partner}
 use Rattle.trays.proofs.Kind.{Kind}
@@ -27,10 +27,10 @@ same-ring s t p q = λ i. record {
   most = isProp→PathP (λ i. p i .0 ≤ 32) (λ i. le-prop) (s .most) (t .most) i;
   «span_least» = isProp→PathP (λ i. 2 ≤ p i .1) (λ i. le-prop) (s .«span_least») (t .«span_least») i;
   «span_most» = isProp→PathP (λ i. p i .1 ≤ p i .0) (λ i. le-prop) (s .«span_most») (t .«span_most») i;
-  «each_once» = isProp→PathP (λ i. T (permutation numeral (p i .0) (q i))) (λ i. T-prop (permutation numeral (p i .0) (q i))) (s .«each_once») (t .«each_once») i;
+  «each_once» = isProp→PathP (λ i. T (permutation number-tray (p i .0) (q i))) (λ i. T-prop (permutation number-tray (p i .0) (q i))) (s .«each_once») (t .«each_once») i;
 }
 
-pub ring-kind : Kind numeral numeral-regular ring mirrored base
+pub ring-kind : Kind number-tray number-regular ring mirrored base
 ring-kind = record {
   trays = λ s. s .trays;
   count = λ b. b .0;
@@ -45,7 +45,7 @@ ring-kind = record {
   exchange = turn-exchange;
   after-base = λ s p. refl;
   after-trays = turn-moves;
-  home = λ s. let m = s .most in let l = permuted s .long in first-in-order numeral numeral-regular (s .n) (s .trays) (omega arith);
+  home = λ s. let m = s .most in let l = permuted s .long in first-in-order number-tray number-regular (s .n) (s .trays) (omega arith);
   mirror-base = λ s. refl;
   mirror-trays = λ s. refl;
 }

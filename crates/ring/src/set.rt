@@ -1,6 +1,6 @@
 ghost use mathlib.Core.Path.{_≡_};
 ghost use Rattle.std.specs.declared.option.Option.the-variants.{Some};
-ghost use Rattle.trays.specs.Form.{numeral};
+ghost use Rattle.trays.specs.Form.{number-tray};
 ghost use Rattle.trays.specs.Setting.{Accepted, Spanned};
 ghost use Rattle.ring.specs.Ring.{held};
 use crate::kind::TrayRing;
@@ -23,7 +23,7 @@ impl TrayRing {
 
     // The ring of trays that have passed every check.
     fn built(n: u8, span: u8, trays: [u8; 32]) -> TrayRing
-        requires { ⌜ Accepted numeral 4 n trays ⌝ ∗ ⌜ Spanned n (Some span) ⌝ }
+        requires { ⌜ Accepted number-tray 4 n trays ⌝ ∗ ⌜ Spanned n (Some span) ⌝ }
         ensures { λ r. ⌜ (r .n ≡ n) × (r .span ≡ span) × (r .trays ≡ trays) ⌝ }
     {
         TrayRing { n, span, trays }
@@ -35,7 +35,7 @@ pub impl Settable for TrayRing as RingSetting {
 
     type Span = u8;
 
-    ghost form = { numeral };
+    ghost form = { number-tray };
 
     ghost spanning = { λ k. Some k };
 

@@ -2,7 +2,7 @@ ghost use mathlib.Core.Path.{_≡_};
 ghost use Prim.Native.Nat.{_-_, _<_, _≤_};
 ghost use lib.ListN.{take};
 ghost use Rattle.machine.specs.Duals.{IsDual};
-ghost use Rattle.trays.specs.Form.{numeral};
+ghost use Rattle.trays.specs.Form.{number-tray};
 ghost use Rattle.trays.specs.Run.{RunReversed, place-on};
 ghost use Rattle.ring.specs.Ring.{mirrored, ring, run-of, turned};
 use crate::kind::TrayRing;
@@ -38,7 +38,7 @@ impl TrayRing {
     fn run_turned(&self, from: usize) -> [u8; 32]
         requires { ⌜ from < now self .n ⌝ }
         ensures value { λ r. ⌜ r ≡ run-of (now (self .entry)) from ⌝ }
-        ensures reversed { λ r. ⌜ RunReversed numeral (now (self .entry) .n) (now (self .entry) .span) from (now (self .entry) .trays) r ⌝ }
+        ensures reversed { λ r. ⌜ RunReversed number-tray (now (self .entry) .n) (now (self .entry) .span) from (now (self .entry) .trays) r ⌝ }
     {
         let mut trays = self.trays;
         let span = self.span as usize;

@@ -15,7 +15,7 @@ use Rattle.text.specs.declared.word.Word.{Word}
 use Rattle.text.specs.Lines.{Stuck, Written}
 use Rattle.text.specs.Stacks.{tray-count}
 use Rattle.text.specs.Words.{Words}
-use Rattle.trays.specs.Form.{numeral}
+use Rattle.trays.specs.Form.{number-tray}
 use Rattle.task.specs.declared.outcome.Outcome.{Outcome}
 use Rattle.task.specs.declared.outcome.Outcome.the-variants.{Nothing, Misread, Plain, Sided, Ring}
 use Rattle.task.specs.Work.{Attempted}
@@ -28,9 +28,9 @@ Bytes trays bytes = (k : ℕ) → k < 32 → getD bytes k 0 ≡ getD trays k 0
 abbrev pub Settled : Kind → ℕ → Option ℕ → List ℕ → Option (List ℕ) → Outcome → Type 0
 Settled k n span bytes task Nothing = ⊥
 Settled k n span bytes task (Misread at expected) = ⊥
-Settled k n span bytes task (Plain a) = (k ≡ kind.Plain) × Attempted numeral 1 towers.held towers.plain towers.mirrored (λ s. s) n None (map (numeral .read) bytes) task a
+Settled k n span bytes task (Plain a) = (k ≡ kind.Plain) × Attempted number-tray 1 towers.held towers.plain towers.mirrored (λ s. s) n None (map (number-tray .read) bytes) task a
 Settled k n span bytes task (Sided a) = (k ≡ kind.Sided) × Attempted sided-tray 1 sides.held sides.sided sides.mirrored (λ s. s) n None (map (sided-tray .read) bytes) task a
-Settled k n span bytes task (Ring a) = (k ≡ kind.Ring) × Attempted numeral 4 rings.held rings.ring rings.mirrored (λ s. s) n (Some (valueOr span 0)) (map (numeral .read) bytes) task a
+Settled k n span bytes task (Ring a) = (k ≡ kind.Ring) × Attempted number-tray 4 rings.held rings.ring rings.mirrored (λ s. s) n (Some (valueOr span 0)) (map (number-tray .read) bytes) task a
 
 -- The words make a request, and this is done for it.
 pub record Requested (ws : List Word) (o : Outcome) : Type 0 where

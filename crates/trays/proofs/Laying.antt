@@ -7,7 +7,7 @@ use native.Mathlib.Omega.{arith}
 use lib.ListN.{length, set, replicate}
 use Rattle.std.proofs.shelf.Tests.{cases-eq, cases-lt}
 use Rattle.std.proofs.shelf.Lists.{length-set, getD-set-same, getD-set-other, getD-replicate, getD-past}
-use Rattle.trays.specs.First.{AtHome}
+use Rattle.trays.specs.AtHome.{AtHome}
 use Rattle.trays.specs.Form.{TrayForm, Regular, number-at, tray-at}
 use Rattle.trays.proofs.Permuting.{first-in-order}
 

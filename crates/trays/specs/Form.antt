@@ -47,11 +47,11 @@ abbrev pub number-at : {A : Type 0} → TrayForm A → List A → ℕ → ℕ
 number-at f xs i = f .number (tray-at f xs i)
 
 -- A tray that is its number and has no side.
-abbrev pub numeral : TrayForm ℕ
-numeral = record { number = λ t. t; upright = λ v. v; stands = λ v t. eqb t v; renumbered = λ v t. v; sided = λ b t. t; read = λ b. b; byte = λ t. t }
+abbrev pub number-tray : TrayForm ℕ
+number-tray = record { number = λ t. t; upright = λ v. v; stands = λ v t. eqb t v; renumbered = λ v t. v; sided = λ b t. t; read = λ b. b; byte = λ t. t }
 
-pub numeral-regular : Regular numeral
-numeral-regular = record {
+pub number-regular : Regular number-tray
+number-regular = record {
   number-upright = λ v. refl;
   number-renumbered = λ v t. refl;
   number-sided = λ b t. refl;

@@ -1,4 +1,4 @@
-pub mod First
+pub mod AtHome
 pub mod Form
 pub mod Reading
 pub mod Run

@@ -40,7 +40,7 @@ permutation f n xs =
 unfoldable pub in-order : {A : Type 0} → TrayForm A → List A → Bool
 in-order f xs = every (length xs) (λ i. f .stands (suc i) (tray-at f xs i))
 
--- what place j of the inverse holds, where the place before p is the one that holds tray j: that place's tray, with the place as its number
+-- what a place of the inverse holds that answers to place p, counted from 1: the tray there with p as its number, and no tray where p is 0
 abbrev pub answering : {A : Type 0} → TrayForm A → List A → ℕ → A
 answering f xs zero = f .upright 0
 answering f xs (suc i) = f .renumbered (suc i) (tray-at f xs i)

@@ -24,7 +24,7 @@ partner n span a i = cond (ltb i n) (cond (ltb (steps-to n a i) span) (place-on 
 unfoldable pub run-turned : {A : Type 0} → TrayForm A → ℕ → ℕ → ℕ → List A → List A
 run-turned f n span a xs = map (λ i. tray-at f xs (partner n span a i)) (counting 0 32)
 
--- The tray that lies j steps on in the run comes from as many steps before its end, and all others stay.
+-- The tray that comes j steps on in the run stood as many steps before its end; every other stays.
 pub record RunReversed {A : Type 0} (f : TrayForm A) (n span a : ℕ) (xs ys : List A) : Type 0 where
   pub inside : (j : ℕ) → j < span → tray-at f ys (place-on n a j) ≡ tray-at f xs (place-on n a (span - 1 - j))
   pub outside : (i : ℕ) → ((j : ℕ) → j < span → i ≡ place-on n a j → ⊥) → tray-at f ys i ≡ tray-at f xs i

@@ -1,5 +1,5 @@
 ghost use Prim.Native.Nat.{_≤_, max, min};
-ghost use Rattle.trays.specs.First.{AtHome};
+ghost use Rattle.trays.specs.AtHome.{AtHome};
 use crate::tray::Tray;
 
 // The trays 1 to n as they stand at home, and none after them. n below 1 counts as 1, and above 32 as 32.

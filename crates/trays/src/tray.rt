@@ -1,7 +1,7 @@
 ghost use mathlib.Core.Path.{_≡_};
 ghost use Prim.Native.Nat.{_<_};
 ghost use lib.ListN.{length};
-ghost use Rattle.trays.specs.Form.{TrayForm, Regular, number-at, numeral, tray-at};
+ghost use Rattle.trays.specs.Form.{TrayForm, Regular, number-at, number-tray, tray-at};
 
 // A tray as a machine holds it. `form` says what its number and its side are.
 pub trait Tray {
@@ -31,7 +31,7 @@ pub trait Tray {
 
 // A tray without sides is its number.
 pub impl Tray for u8 as NumberTray {
-    ghost form = { numeral };
+    ghost form = { number-tray };
 
     fn upright(number: u8) -> u8 {
         number

@@ -1,7 +1,7 @@
 use mathlib.Core.Path.{_≡_}
 use borrow.Author.Needs.{needs}
 use lib.ListN.{length}
-use Rattle.trays.specs.Form.{numeral, numeral-regular}
+use Rattle.trays.specs.Form.{number-tray, number-regular}
 use Rattle.trays.proofs.Permuting.{from-accepted}
 use Rattle.plain.proofs.tower.PlainTower.built.Needs as need
 
@@ -10,4 +10,4 @@ ghost-result c =
     let xs = c .args .trays in
     let long : length xs ≡ 32 = search needs in
     let count = c .pre .counted in
-    (count .0, (count .1, (from-accepted numeral numeral-regular 1 (c .args .n) xs long (c .pre), tt)))
+    (count .0, (count .1, (from-accepted number-tray number-regular 1 (c .args .n) xs long (c .pre), tt)))

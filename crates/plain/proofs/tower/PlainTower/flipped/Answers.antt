@@ -4,7 +4,7 @@ use Prim.Native.Nat.{ℕ, _≤_}
 use native.Mathlib.Omega.{arith}
 use lib.Dec.{T}
 use Rattle.reversal.specs.Reversed.{reversed-part}
-use Rattle.trays.specs.Form.{numeral}
+use Rattle.trays.specs.Form.{number-tray}
 use Rattle.trays.specs.Permutation.{permutation}
 use Rattle.trays.proofs.Turning.{block-turned}
 use Rattle.plain.specs.declared.tower.PlainTower.{PlainTower}
@@ -19,7 +19,7 @@ pub ghost-result : need.ghost-result
 ghost-result c =
     let s = c .args .self in
     let e = turns s (c .args .k) (c .reverse-part .last .items) (c .pre) (c .reverse-part .ensures) in
-    (s .least, (s .most, (subst (λ (l : List ℕ). T (permutation numeral (s .n) l)) (sym e) (turned s (c .args .k) .«each_once»), tt)))
+    (s .least, (s .most, (subst (λ (l : List ℕ). T (permutation number-tray (s .n) l)) (sym e) (turned s (c .args .k) .«each_once»), tt)))
 
 pub returns : need.returns
 returns c =

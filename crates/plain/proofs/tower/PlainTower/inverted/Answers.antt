@@ -3,7 +3,7 @@ use mathlib.Core.List.{List}
 use Prim.Native.Nat.{ℕ}
 use lib.Dec.{T}
 use Rattle.machine.proofs.Relabelling.{is-dual}
-use Rattle.trays.specs.Form.{numeral, numeral-regular}
+use Rattle.trays.specs.Form.{number-tray, number-regular}
 use Rattle.trays.specs.Permutation.{permutation}
 use Rattle.trays.proofs.Inverting.{inverse-fits}
 use Rattle.trays.proofs.Kind.{kind-duals}
@@ -14,11 +14,11 @@ use Rattle.plain.proofs.tower.PlainTower.inverted.Needs as need
 pub ghost-result : need.ghost-result
 ghost-result c =
     let s = c .args .self in
-    let e = inverse-fits numeral numeral-regular (s .n) (s .trays) (c .invert .result) (s .most) (c .invert .ensures .value) in
-    (s .least, (s .most, (subst (λ (l : List ℕ). T (permutation numeral (s .n) l)) (sym e) (mirrored s .«each_once»), tt)))
+    let e = inverse-fits number-tray number-regular (s .n) (s .trays) (c .invert .result) (s .most) (c .invert .ensures .value) in
+    (s .least, (s .most, (subst (λ (l : List ℕ). T (permutation number-tray (s .n) l)) (sym e) (mirrored s .«each_once»), tt)))
 
 pub returns : need.returns
 returns c =
     let s = c .args .self in
-    let e = inverse-fits numeral numeral-regular (s .n) (s .trays) (c .invert .result) (s .most) (c .invert .ensures .value) in
-    is-dual plain mirrored (kind-duals numeral numeral-regular plain mirrored (λ s. s .n) plain-kind) s _ (same-tower _ (mirrored s) refl e)
+    let e = inverse-fits number-tray number-regular (s .n) (s .trays) (c .invert .result) (s .most) (c .invert .ensures .value) in
+    is-dual plain mirrored (kind-duals number-tray number-regular plain mirrored (λ s. s .n) plain-kind) s _ (same-tower _ (mirrored s) refl e)

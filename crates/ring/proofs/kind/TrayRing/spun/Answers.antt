@@ -3,7 +3,7 @@ use mathlib.Core.List.{List}
 use Prim.Native.Nat.{ℕ, _-_, _≤_}
 use native.Mathlib.Omega.{arith}
 use lib.Dec.{T}
-use Rattle.trays.specs.Form.{numeral}
+use Rattle.trays.specs.Form.{number-tray}
 use Rattle.trays.specs.Permutation.{permutation}
 use Rattle.ring.specs.declared.kind.TrayRing.{TrayRing}
 use Rattle.ring.specs.Ring.{run-of, start, turned}
@@ -17,7 +17,7 @@ pub ghost-result : need.ghost-result
 ghost-result c =
     let s = c .args .self in
     let e = turns s (c .args .p) (c .run-turned .result) (c .pre .0) (c .pre .1) (c .run-turned .ensures .value) in
-    (s .least, (s .most, (s .«span_least», (s .«span_most», (subst (λ (l : List ℕ). T (permutation numeral (s .n) l)) (sym e) (turned s (c .args .p) .«each_once»), tt)))))
+    (s .least, (s .most, (s .«span_least», (s .«span_most», (subst (λ (l : List ℕ). T (permutation number-tray (s .n) l)) (sym e) (turned s (c .args .p) .«each_once»), tt)))))
 
 pub returns : need.returns
 returns c =
