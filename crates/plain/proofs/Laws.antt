@@ -22,7 +22,7 @@ same-tower s t p q = λ i. record {
   «each_once» = isProp→PathP (λ i. T (permutation number-tray (p i) (q i))) (λ i. T-prop (permutation number-tray (p i) (q i))) (s .«each_once») (t .«each_once») i;
 }
 
-pub plain-kind : Kind number-tray number-regular plain mirrored (λ s. s .n)
+unfoldable pub plain-kind : Kind number-tray number-regular plain mirrored (λ s. s .n)
 plain-kind = record {
   trays = λ s. s .trays;
   count = λ n. n;

@@ -30,7 +30,7 @@ same-ring s t p q = λ i. record {
   «each_once» = isProp→PathP (λ i. T (permutation number-tray (p i .0) (q i))) (λ i. T-prop (permutation number-tray (p i .0) (q i))) (s .«each_once») (t .«each_once») i;
 }
 
-pub ring-kind : Kind number-tray number-regular ring mirrored base
+unfoldable pub ring-kind : Kind number-tray number-regular ring mirrored base
 ring-kind = record {
   trays = λ s. s .trays;
   count = λ b. b .0;

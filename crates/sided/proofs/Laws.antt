@@ -22,7 +22,7 @@ same-tower s t p q = λ i. record {
   «each_once» = isProp→PathP (λ i. T (permutation sided-tray (p i) (q i))) (λ i. T-prop (permutation sided-tray (p i) (q i))) (s .«each_once») (t .«each_once») i;
 }
 
-pub sided-kind : Kind sided-tray sided-regular sided mirrored (λ s. s .n)
+unfoldable pub sided-kind : Kind sided-tray sided-regular sided mirrored (λ s. s .n)
 sided-kind = record {
   trays = λ s. s .trays;
   count = λ n. n;

@@ -4,15 +4,15 @@ use mathlib.Core.Bool.{Bool, true, false}
 use mathlib.Core.List.{List}
 use Prim.Native.Nat.{ℕ, zero, suc, _-_, _<_, _≤_, min}
 use native.Mathlib.Omega.{arith}
-use lib.Dec.{eqb}
+use lib.Dec.{T, eqb}
 use lib.ListN.{length}
 use Rattle.std.proofs.shelf.Tests.{cases-eq, cases-lt, cond-true, cond-false, eqb-true, eq-eqb, ne-eqb}
 use Rattle.std.proofs.shelf.Lists.{getD-past, ext-getD}
 use Rattle.std.proofs.shelf.Counted.{length-map-counting, getD-map-counting}
 use Rattle.trays.specs.Form.{TrayForm, Regular, number-at, tray-at}
-use Rattle.trays.specs.Permutation.{Inverts, last, answering, inverse}
+use Rattle.trays.specs.Permutation.{Inverts, last, answering, inverse, permutation}
 use Rattle.trays.proofs.Marking.{covers}
-use Rattle.trays.proofs.Permuting.{Permutation, Ordered, from-test}
+use Rattle.trays.proofs.Permuting.{Permutation, Ordered, from-test, to-test}
 
 last-is : (n : ℕ) (p : ℕ → Bool) (i : ℕ) → i < n → p i ≡ true → ((j : ℕ) → j < n → p j ≡ true → j ≡ i) → last n p ≡ suc i
 unfolding last
@@ -119,3 +119,8 @@ module _ {A : Type 0} (f : TrayForm A) (reg : Regular f) (n : ℕ) where
 
 pub inverts : {A : Type 0} (f : TrayForm A) → Regular f → Inverts f
 inverts f reg n xs most t = inverse-at f reg n xs (from-test f reg n xs t) most
+
+-- the inverse keeps the test
+pub inverse-kept : {A : Type 0} (f : TrayForm A) → Regular f → (n : ℕ) (xs ys : List A) → n ≤ 32 → T (permutation f n xs) → ys ≡ inverse f (min n 32) xs → T (permutation f n ys)
+inverse-kept f reg n xs ys most t e =
+    to-test f reg n ys (subst (Permutation f n) (sym (inverse-fits f reg n xs ys most e)) (inverse-permutation f reg n xs (from-test f reg n xs t) most))

@@ -1,15 +1,15 @@
 use mathlib.Core.Path.{_≡_, sym, _∙_, ap, subst}
 use mathlib.Core.List.{List, map}
-use Prim.Native.Nat.{ℕ, _≤_}
+use Prim.Native.Nat.{ℕ, _≤_, min}
 use Rattle.std.specs.Orderings.{Decides}
 use Rattle.std.proofs.shelf.Ways.{decides-like, same-from-decides}
-use Rattle.machine.specs.Duals.{Duals}
+use Rattle.machine.specs.Duals.{Duals, IsDual}
 use Rattle.machine.specs.Meaning.{Meaning, Lawful}
-use Rattle.machine.proofs.Relabelling.{Relabelling, relabelling-duals}
+use Rattle.machine.proofs.Relabelling.{Relabelling, is-dual, relabelling-duals}
 use Rattle.trays.specs.Form.{TrayForm, Regular}
 use Rattle.trays.specs.Permutation.{inverse}
 use Rattle.trays.proofs.Exchange.{Move, Exchange, Moved, moved-back}
-use Rattle.trays.proofs.Inverting.{inverse-permutation, inverse-twice, ordered-inverse}
+use Rattle.trays.proofs.Inverting.{inverse-fits, inverse-permutation, inverse-twice, ordered-inverse}
 use Rattle.trays.proofs.Permuting.{Permutation, Ordered}
 use Rattle.trays.proofs.Relabelled.{relabelled, relabelled-permutation, inverse-moved, ordered-moved, ordered-relabelled, moved-relabelled}
 
@@ -147,3 +147,9 @@ module _ {A B S : Type 0} (f : TrayForm A) (reg : Regular f) (m : Meaning S) (mi
 
   pub kind-duals : Duals m mirror
   kind-duals = relabelling-duals m kind-lawful mirror kind-relabelling
+
+  -- a machine of the same base with the inverse trays is the dual
+  pub kind-dual : (s t : S) → base t ≡ base s → k .trays t ≡ inverse f (min (n s) 32) (k .trays s) → IsDual m mirror s t
+  kind-dual s t b e =
+      is-dual m mirror kind-duals s t
+      (k .same t (mirror s) (b ∙ sym (k .mirror-base s)) (inverse-fits f reg (n s) (k .trays s) (k .trays t) (k .most s) e ∙ sym (k .mirror-trays s)))

@@ -1,6 +1,7 @@
 pub mod Answering
 pub mod Bit
 pub mod Exchange
+pub mod Filling
 pub mod Inverting
 pub mod Kind
 pub mod Laying
