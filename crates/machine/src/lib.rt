@@ -1,3 +1,5 @@
+#![tactic(auto)]
+
 mod fault;
 mod following;
 mod interface;

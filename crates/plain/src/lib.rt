@@ -1,3 +1,5 @@
+#![tactic(auto)]
+
 mod set;
 mod tower;
 mod turns;

@@ -1,3 +1,5 @@
+#![tactic(auto)]
+
 mod kind;
 mod set;
 mod turns;

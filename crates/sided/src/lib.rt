@@ -1,3 +1,5 @@
+#![tactic(auto)]
+
 mod form;
 mod set;
 mod tower;

@@ -1,3 +1,5 @@
+#![tactic(auto)]
+
 mod outcome;
 mod performing;
 mod working;

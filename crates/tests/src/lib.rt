@@ -1,3 +1,5 @@
+#![tactic(auto)]
+
 #[cfg(test)]
 mod duals;
 #[cfg(test)]

@@ -1,3 +1,5 @@
+#![tactic(auto)]
+
 mod parsing;
 mod reader;
 mod request;

@@ -1,3 +1,5 @@
+#![tactic(auto)]
+
 mod bytes;
 mod check;
 mod first;
