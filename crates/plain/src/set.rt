@@ -36,7 +36,7 @@ impl Settable for PlainTower {
 
     fn set(&mut self, n: u8, _span: (), bytes: &[u8; 32]) -> Result<(), Fault> {
         let trays = read_trays(bytes);
-        check_trays(<PlainTower as Machine>::LEAST, n, None, &trays)?;
+        check_trays(Self::LEAST, n, None, &trays)?;
         *self = PlainTower::built(n, trays);
         Ok(())
     }

@@ -43,7 +43,7 @@ impl Settable for TrayRing {
 
     fn set(&mut self, n: u8, span: u8, bytes: &[u8; 32]) -> Result<(), Fault> {
         let trays = read_trays(bytes);
-        check_trays(<TrayRing as Machine>::LEAST, n, Some(span), &trays)?;
+        check_trays(Self::LEAST, n, Some(span), &trays)?;
         *self = TrayRing::built(n, span, trays);
         Ok(())
     }

@@ -37,7 +37,7 @@ impl Settable for SidedTower {
 
     fn set(&mut self, n: u8, _span: (), bytes: &[u8; 32]) -> Result<(), Fault> {
         let trays = read_trays(bytes);
-        check_trays(<SidedTower as Machine>::LEAST, n, None, &trays)?;
+        check_trays(Self::LEAST, n, None, &trays)?;
         *self = SidedTower::built(n, trays);
         Ok(())
     }

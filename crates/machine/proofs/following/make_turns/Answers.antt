@@ -25,9 +25,9 @@ loop-k-preserved g c =
     let turns = c.args.turns.now in
     let i = c.loop-k.k-index in
     let t = c.turn.new.self in
-    let turned = c.in-default.ensures in
+    let turned = c.in_default.ensures in
     let states = vec_items c.loop-k.states in
-    resumes_more g.M.Machine.meaning (state c.args.machine.now) turns (map state states) (map state (vec_items c.push.new.self)) (state c.loop-k.machine) (state t) (get_or turns i 0) (drop i turns) (drop (i + 1) turns) c.loop-k.invariant (drop_more turns i 0 c.loop-k-test.true) turned.0 turned.1 (ap (map state) c.in-ok-push.ensures.items ∙ map-append state states (t ∷ []))
+    resumes_more g.M.Machine.meaning (state c.args.machine.now) turns (map state states) (map state (vec_items c.push.new.self)) (state c.loop-k.machine) (state t) (get_or turns i 0) (drop i turns) (drop (i + 1) turns) c.loop-k.invariant (drop_more turns i 0 c.loop-k-test.true) turned.0 turned.1 (ap (map state) c.in_ok-push.ensures.items ∙ map-append state states (t ∷ []))
 
 pub returns : goal.returns
 returns g c =

@@ -24,4 +24,4 @@ returns c =
     let xs = c.args.bytes.now in
     let j = c.min-n.result - 0 in
     let most : j ≡ min (length xs) 32 = let e = c.min-n.ensures in omega arith in
-    padded j xs c.copy-from-slice.new.self most c.copy-from-slice.ensures.after
+    padded j xs c.copy_from_slice.new.self most c.copy_from_slice.ensures.after

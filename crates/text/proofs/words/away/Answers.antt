@@ -1,6 +1,6 @@
 use Rattle.text.proofs.Wording.{away_none}
 use Rattle.text.proofs.words.away.Goals as goal
 
-pub returns-in-err-n : goal.returns-in-err-n
-returns-in-err-n c =
-    rw c.from-residual-in-err-n.ensures (away_none c.args.text.now c.in-ok-digits.digits.now c.in-ok-digits.ensures c.in-err-n.ensures)
+pub returns-in_err-n : goal.returns-in_err-n
+returns-in_err-n c =
+    rw c.from_residual-in_err-n.ensures (away_none c.args.text.now c.in_ok-digits.digits.now c.in_ok-digits.ensures c.in_err-n.ensures)

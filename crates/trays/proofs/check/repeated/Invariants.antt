@@ -5,4 +5,4 @@ use Rattle.trays.specs.Setting.{Each, New}
 use Rattle.trays.proofs.check.repeated.Given as goal
 
 abbrev pub invariant-loop-i : goal.invariant-loop-i
-invariant-loop-i g l = (l.seen ≡ marks (number_at g.T-as-Tray.form l.trays) l.i) × Each (New (number_at g.T-as-Tray.form l.trays)) 0 l.i
+invariant-loop-i g l = (l.seen ≡ marks (number_at g.T.Tray.form l.trays) l.i) × Each (New (number_at g.T.Tray.form l.trays)) 0 l.i

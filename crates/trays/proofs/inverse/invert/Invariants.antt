@@ -3,4 +3,4 @@ use Rattle.trays.specs.Permutation.{inverse}
 use Rattle.trays.proofs.inverse.invert.Given as goal
 
 abbrev pub invariant-loop-i : goal.invariant-loop-i
-invariant-loop-i g l = l.places ≡ inverse g.T-as-Tray.form l.i l.trays
+invariant-loop-i g l = l.places ≡ inverse g.T.Tray.form l.i l.trays

@@ -7,13 +7,13 @@ pub returns-then-number-le32 : goal.returns-then-number-le32
 returns-then-number-le32 g c =
     let xs = c.args.trays.now in
     let few = c.requires.0 in
-    let long = c.type-inv.trays in
-    place_set g.T-as-Tray.form g.met.T.Tray.regular xs c.args.i c.args.places.now c.requires.1 _ c.renumbered.result c.number-number.result (get_or_default xs c.args.i _ _ (omega arith)) c.number-number.ensures c.if-number-ge1.true c.if-number-le32.true c.renumbered.ensures
+    let long = c.type_inv.trays in
+    place_set g.T.Tray.form g.met.T.Tray.regular xs c.args.i c.args.places.now c.requires.1 _ c.renumbered.result c.number-number.result (get_or_default xs c.args.i _ _ (omega arith)) c.number-number.ensures c.if-number-ge1.true c.if-number-le32.true c.renumbered.ensures
 
 pub returns-else-number-ge1 : goal.returns-else-number-ge1
 returns-else-number-ge1 g c =
     let xs = c.args.trays.now in
     let few = c.requires.0 in
-    let long = c.type-inv.trays in
-    place_none g.T-as-Tray.form g.met.T.Tray.regular xs c.args.i c.args.places.now c.requires.1 _ c.number-number.result (get_or_default xs c.args.i _ _ (omega arith)) c.number-number.ensures
+    let long = c.type_inv.trays in
+    place_none g.T.Tray.form g.met.T.Tray.regular xs c.args.i c.args.places.now c.requires.1 _ c.number-number.result (get_or_default xs c.args.i _ _ (omega arith)) c.number-number.ensures
     (λ (low, high). ⊎_elim (λ above. let a = above.1 in omega arith) (λ below. omega arith) c.else-number-ge1.either)

@@ -6,10 +6,16 @@ use Rattle.ring.specs.Ring.{mirrored, ring}
 use Rattle.ring.specs.Laws.{base, ring_kind}
 use Rattle.ring.proofs.kind.TrayRing.inverted.Goals as goal
 
-pub invariant-of-result : goal.invariant-of-result
-invariant-of-result c =
+pub invariant_of-result : goal.invariant_of-result
+invariant_of-result c =
     let s = c.args.self in
-    (s.least, (s.most, (s.span_least, (s.span_most, (inverse_kept number_tray number_regular s.n s.trays c.invert.result s.most s.each_once c.invert.ensures.value, tt)))))
+    record {
+      least = s.least;
+      most = s.most;
+      span_least = s.span_least;
+      span_most = s.span_most;
+      each_once = inverse_kept number_tray number_regular s.n s.trays c.invert.result s.most s.each_once c.invert.ensures.value;
+    }
 
 pub returns : goal.returns
 unfolding ring_kind

@@ -7,7 +7,7 @@ loop-j-init c = none_spun c.args.self.now c.args.from
 
 pub loop-j-preserved : goal.loop-j-preserved
 loop-j-preserved c =
-    more_spun c.args.self.now c.args.from c.loop-j.j c.place-on-in-loop-j.result c.place_on.result c.loop-j.trays c.loop-j-test.true c.place-on-in-loop-j.ensures c.place_on.ensures c.loop-j.invariant
+    more_spun c.args.self.now c.args.from c.loop-j.j c.place_on-in-loop-j.result c.place_on.result c.loop-j.trays c.loop-j-test.true c.place_on-in-loop-j.ensures c.place_on.ensures c.loop-j.invariant
 
 pub returns : goal.returns
 returns c =

@@ -9,11 +9,17 @@ use Rattle.ring.proofs.kind.TrayRing.spun.Goals as goal
 turns : (s : TrayRing) (p : ℕ) (ys : List ℕ) → 1 ≤ p → p ≤ s.n → ys ≡ run_of s (p - 1) → ys ≡ (turned s p).trays
 turns s p ys low high e = let at : p - 1 ≡ start s.n p = omega arith in e ∙ ap (run_of s) at
 
-pub invariant-of-result : goal.invariant-of-result
-invariant-of-result c =
+pub invariant_of-result : goal.invariant_of-result
+invariant_of-result c =
     let s = c.args.self in
     let e = turns s c.args.p c.run_turned.result c.requires.0 c.requires.1 c.run_turned.ensures.value in
-    (s.least, (s.most, (s.span_least, (s.span_most, (subst (λ (l : List ℕ). T (permutation number_tray s.n l)) (sym e) (turned s c.args.p).each_once, tt)))))
+    record {
+      least = s.least;
+      most = s.most;
+      span_least = s.span_least;
+      span_most = s.span_most;
+      each_once = subst (λ (l : List ℕ). T (permutation number_tray s.n l)) (sym e) (turned s c.args.p).each_once;
+    }
 
 pub returns : goal.returns
 returns c =

@@ -17,13 +17,17 @@ turns s k ys zs le round over =
     let same : k ≡ min k s.n = omega arith in
     over ∙ ap₂ (λ (j : ℕ) (l : List SidedTray). turned_over sided_tray j l) same (block_turned s.n k s.trays ys (omega arith) le round)
 
-pub invariant-of-result : goal.invariant-of-result
-invariant-of-result c =
+pub invariant_of-result : goal.invariant_of-result
+invariant_of-result c =
     let s = c.args.self in
-    let e = turns s c.args.k c.reverse-part.new.items c.turn-over.new.trays c.requires c.reverse-part.ensures c.turn-over.ensures in
-    (s.least, (s.most, (subst (λ (l : List SidedTray). T (permutation sided_tray s.n l)) (sym e) (turned s c.args.k).each_once, tt)))
+    let e = turns s c.args.k c.reverse_part.new.items c.turn_over.new.trays c.requires c.reverse_part.ensures c.turn_over.ensures in
+    record {
+      least = s.least;
+      most = s.most;
+      each_once = subst (λ (l : List SidedTray). T (permutation sided_tray s.n l)) (sym e) (turned s c.args.k).each_once;
+    }
 
 pub returns : goal.returns
 returns c =
     let s = c.args.self in
-    same_tower _ (turned s c.args.k) refl (turns s c.args.k c.reverse-part.new.items c.turn-over.new.trays c.requires c.reverse-part.ensures c.turn-over.ensures)
+    same_tower _ (turned s c.args.k) refl (turns s c.args.k c.reverse_part.new.items c.turn_over.new.trays c.requires c.reverse_part.ensures c.turn_over.ensures)

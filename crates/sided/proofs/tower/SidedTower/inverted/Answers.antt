@@ -6,10 +6,14 @@ use Rattle.sided.specs.Tray.{sided_tray, sided_regular}
 use Rattle.sided.specs.Laws.{sided_kind}
 use Rattle.sided.proofs.tower.SidedTower.inverted.Goals as goal
 
-pub invariant-of-result : goal.invariant-of-result
-invariant-of-result c =
+pub invariant_of-result : goal.invariant_of-result
+invariant_of-result c =
     let s = c.args.self in
-    (s.least, (s.most, (inverse_kept sided_tray sided_regular s.n s.trays c.invert.result s.most s.each_once c.invert.ensures.value, tt)))
+    record {
+      least = s.least;
+      most = s.most;
+      each_once = inverse_kept sided_tray sided_regular s.n s.trays c.invert.result s.most s.each_once c.invert.ensures.value;
+    }
 
 pub returns : goal.returns
 unfolding sided_kind

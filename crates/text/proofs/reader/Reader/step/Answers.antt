@@ -17,7 +17,7 @@ returns-in-Dual c ws =
     let r = c.args.self.now in
     dual_begin r.expected r.kind (vec_items r.trays) r.count r.span (vec_items r.turns) ws c.args.word c.in-Dual.is (sym c.if-not-allows.ensures)
 
-pub returns-in-ok-push : goal.returns-in-ok-push
-returns-in-ok-push c ws =
+pub returns-in_ok-push-in-Away : goal.returns-in_ok-push-in-Away
+returns-in_ok-push-in-Away c ws =
     let r = c.args.self.now in
-    away_more r.expected r.kind (vec_items r.trays) r.count r.span (vec_items r.turns) ws c.args.word (vec_items c.push.new.self) c.in-Away.n c.away-tray.result c.in-Away.is (sym c.if-not-allows.ensures) c.away-tray.ensures c.in-ok-push.ensures.items
+    away_more r.expected r.kind (vec_items r.trays) r.count r.span (vec_items r.turns) ws c.args.word (vec_items c.push.new.self) c.in-Away.n c.away_tray.result c.in-Away.is (sym c.if-not-allows.ensures) c.away_tray.ensures c.in_ok-push-in-Away.ensures.items
