@@ -27,8 +27,8 @@ fn check_backwards<M: Dual + Copy>(
 fn of_a_plain_tower(rt: HostRuntime) -> Result<(), Fail> {
     let mut t = PlainTower::new();
     t.set(3, (), &bytes(&[2, 3, 1]))?;
-    assert_eq!(rt; t.dual().trays(), &[3, 1, 2]);
-    assert_eq!(rt; t.dual().dual().trays(), &[2, 3, 1]);
+    assert_eq!(rt; t.dual().trays(), [3, 1, 2].as_slice());
+    assert_eq!(rt; t.dual().dual().trays(), [2, 3, 1].as_slice());
     check_backwards(&rt, t, &[3, 2], &[2, 3], Ending::NotHome)?;
     check_backwards(&rt, t, &[2, 3], &[3, 2], Ending::Home)
 }
@@ -40,7 +40,7 @@ fn of_a_sided_tower(rt: HostRuntime) -> Result<(), Fail> {
     let dual = t.dual();
     assert_eq!(rt;
         dual.trays(),
-        &[
+        [
             SidedTray {
                 number: 2,
                 away: true,
@@ -54,6 +54,7 @@ fn of_a_sided_tower(rt: HostRuntime) -> Result<(), Fail> {
                 away: false,
             },
         ]
+        .as_slice()
     );
     assert_eq!(rt; dual.dual().trays(), t.trays());
     t.set(3, (), &bytes(&[3, 1, 2]))?;
@@ -65,9 +66,9 @@ fn of_a_sided_tower(rt: HostRuntime) -> Result<(), Fail> {
 fn of_a_ring(rt: HostRuntime) -> Result<(), Fail> {
     let mut r = TrayRing::new();
     r.set(5, 3, &bytes(&[4, 1, 3, 2, 5]))?;
-    assert_eq!(rt; r.dual().trays(), &[2, 4, 3, 1, 5]);
+    assert_eq!(rt; r.dual().trays(), [2, 4, 3, 1, 5].as_slice());
     assert_eq!(rt; r.dual().span(), 3);
-    assert_eq!(rt; r.dual().dual().trays(), &[4, 1, 3, 2, 5]);
+    assert_eq!(rt; r.dual().dual().trays(), [4, 1, 3, 2, 5].as_slice());
     check_backwards(&rt, r, &[2, 4], &[4, 2], Ending::Home)?;
     check_backwards(&rt, r, &[4, 2], &[2, 4], Ending::NotHome)
 }

@@ -21,7 +21,7 @@ fn check_turn(rt: &impl Abort, span: u8, p: u8, before: &[u8], after: &[u8]) -> 
 #[test]
 fn four_trays(rt: HostRuntime) -> Result<(), Fail> {
     let r = TrayRing::new();
-    assert_eq!(rt; r.trays(), &[1, 2, 3, 4]);
+    assert_eq!(rt; r.trays(), [1, 2, 3, 4].as_slice());
     assert_eq!(rt; r.span(), 2);
     assert!(rt; r.is_home());
     assert_eq!(rt;
@@ -95,7 +95,7 @@ fn a_refusal_changes_nothing(rt: HostRuntime) -> Result<(), Fail> {
     assert_eq!(rt; r.set(4, 5, &bytes(&[1, 2, 3, 4])), Err(Fault::Span));
     assert_eq!(rt; r.turn(0), Err(Fault::NoSuchTurn));
     assert_eq!(rt; r.turn(6), Err(Fault::NoSuchTurn));
-    assert_eq!(rt; r.trays(), &[4, 1, 3, 2, 5]);
+    assert_eq!(rt; r.trays(), [4, 1, 3, 2, 5].as_slice());
     assert_eq!(rt; r.span(), 3);
     Ok(())
 }

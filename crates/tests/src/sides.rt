@@ -33,10 +33,10 @@ fn bytes_of_trays(rt: HostRuntime) -> Result<(), Fail> {
 #[test]
 fn one_tray(rt: HostRuntime) -> Result<(), Fail> {
     let mut t = SidedTower::new();
-    assert_eq!(rt; t.trays(), &[door_here(1)]);
+    assert_eq!(rt; t.trays(), [door_here(1)].as_slice());
     assert!(rt; t.is_home());
     t.turn(1)?;
-    assert_eq!(rt; t.trays(), &[door_away(1)]);
+    assert_eq!(rt; t.trays(), [door_away(1)].as_slice());
     assert!(rt; !t.is_home());
     let mut t = tower(1, &[129])?;
     assert!(rt; !t.is_home());
@@ -56,12 +56,21 @@ fn three_trays(rt: HostRuntime) -> Result<(), Fail> {
         }
     );
     t.turn(2)?;
-    assert_eq!(rt; t.trays(), &[door_here(1), door_away(3), door_here(2)]);
+    assert_eq!(rt;
+        t.trays(),
+        [door_here(1), door_away(3), door_here(2)].as_slice()
+    );
     t.turn(3)?;
-    assert_eq!(rt; t.trays(), &[door_away(2), door_here(3), door_away(1)]);
+    assert_eq!(rt;
+        t.trays(),
+        [door_away(2), door_here(3), door_away(1)].as_slice()
+    );
     assert_eq!(rt; t.turn(0), Err(Fault::NoSuchTurn));
     assert_eq!(rt; t.turn(4), Err(Fault::NoSuchTurn));
-    assert_eq!(rt; t.trays(), &[door_away(2), door_here(3), door_away(1)]);
+    assert_eq!(rt;
+        t.trays(),
+        [door_away(2), door_here(3), door_away(1)].as_slice()
+    );
     Ok(())
 }
 
@@ -89,7 +98,7 @@ fn a_refusal_changes_nothing(rt: HostRuntime) -> Result<(), Fail> {
     let mut t = tower(2, &[130, 1])?;
     assert_eq!(rt; t.set(0, (), &bytes(&[1])), Err(Fault::TrayCount));
     assert_eq!(rt; t.set(2, (), &bytes(&[128, 1])), Err(Fault::TrayNumber(0)));
-    assert_eq!(rt; t.trays(), &[door_away(2), door_here(1)]);
+    assert_eq!(rt; t.trays(), [door_away(2), door_here(1)].as_slice());
     Ok(())
 }
 

@@ -4,15 +4,20 @@ use std::test::*;
 use task::{Done, Outcome, perform};
 use text::{Expected, Kind, Misread, Request, Task, Word, meaning, parse, read_words};
 
-fn request(rt: &HostRuntime, line: &str) -> Result<Request, Misread> {
+fn request(rt: &impl AllocGlobal, line: &str) -> Result<Request, Misread> {
     parse(rt.alloc(), &read_words(rt.alloc(), line)?)
 }
 
-fn check_misread(rt: &HostRuntime, line: &str, at: usize, expected: Expected) -> Result<(), Fail> {
+fn check_misread(
+    rt: &(impl Abort + AllocGlobal),
+    line: &str,
+    at: usize,
+    expected: Expected,
+) -> Result<(), Fail> {
     match request(rt, line) {
         Ok(_) => Err(Fail::new("understood")),
         Err(m) => {
-            assert_eq!(m, Misread::Unexpected(at, expected));
+            assert_eq!(rt; m, Misread::Unexpected(at, expected));
             Ok(())
         },
     }
@@ -60,7 +65,7 @@ fn check_turns(rt: &impl Abort, q: &Request, turns: &[u8]) -> Result<(), Fail> {
 fn requests(rt: HostRuntime) -> Result<(), Fail> {
     let q = request(&rt, "plain 1 3 2 turns 2 3 2")?;
     assert_eq!(rt; q.kind, Kind::Plain);
-    assert_eq!(rt; q.trays.as_slice(), &[1, 3, 2]);
+    assert_eq!(rt; q.trays.as_slice(), [1, 3, 2].as_slice());
     check_turns(&rt, &q, &[2, 3, 2])?;
     assert_eq!(rt; q.tray_count(), 3);
     let q = request(&rt, "  plain\t1 2 7 count 2 turns")?;
@@ -76,7 +81,7 @@ fn requests(rt: HostRuntime) -> Result<(), Fail> {
 fn sided_and_ring_requests(rt: HostRuntime) -> Result<(), Fail> {
     let q = request(&rt, "sided -1 2 -0 255 dual")?;
     assert_eq!(rt; q.kind, Kind::Sided);
-    assert_eq!(rt; q.trays.as_slice(), &[129, 2, 128, 255]);
+    assert_eq!(rt; q.trays.as_slice(), [129, 2, 128, 255].as_slice());
     assert_eq!(rt; q.span, None);
     assert!(rt; matches!(q.task, Task::Dual));
     let q = request(&rt, "ring 1 2 3 count 3 span 2 turns 0 1")?;
@@ -122,7 +127,7 @@ fn outcomes(rt: HostRuntime) -> Result<(), Fail> {
     let Outcome::Plain(Ok(work)) = perform(rt.alloc(), "plain 1 3 2 turns 2 3 2")? else {
         return Err(Fail::new("not done"));
     };
-    assert_eq!(rt; work.start.trays(), &[1, 3, 2]);
+    assert_eq!(rt; work.start.trays(), [1, 3, 2].as_slice());
     let Done::Followed(_, trace) = &work.done else {
         return Err(Fail::new("not followed"));
     };
@@ -142,7 +147,7 @@ fn duals_of_lines(rt: HostRuntime) -> Result<(), Fail> {
     let Done::Mirrored(dual) = &work.done else {
         return Err(Fail::new("no dual"));
     };
-    assert_eq!(rt; dual.trays(), &[2, 4, 1, 3]);
+    assert_eq!(rt; dual.trays(), [2, 4, 1, 3].as_slice());
     assert_eq!(rt; dual.span(), 3);
     Ok(())
 }

@@ -21,7 +21,7 @@ fn tower(n: u8, numbers: &[u8]) -> Result<PlainTower, Fault> {
 #[test]
 fn one_tray(rt: HostRuntime) -> Result<(), Fail> {
     let mut t = PlainTower::new();
-    assert_eq!(rt; t.trays(), &[1]);
+    assert_eq!(rt; t.trays(), [1].as_slice());
     assert!(rt; t.is_home());
     assert_eq!(rt;
         t.range(),
@@ -32,7 +32,7 @@ fn one_tray(rt: HostRuntime) -> Result<(), Fail> {
     );
     assert_eq!(rt; t.turn(1), Err(Fault::NoSuchTurn));
     assert_eq!(rt; t.turn(2), Err(Fault::NoSuchTurn));
-    assert_eq!(rt; tower(1, &[1])?.trays(), &[1]);
+    assert_eq!(rt; tower(1, &[1])?.trays(), [1].as_slice());
     Ok(())
 }
 
@@ -48,7 +48,7 @@ fn two_trays(rt: HostRuntime) -> Result<(), Fail> {
         }
     );
     t.turn(2)?;
-    assert_eq!(rt; t.trays(), &[1, 2]);
+    assert_eq!(rt; t.trays(), [1, 2].as_slice());
     assert!(rt; t.is_home());
     Ok(())
 }
@@ -57,12 +57,12 @@ fn two_trays(rt: HostRuntime) -> Result<(), Fail> {
 fn three_trays(rt: HostRuntime) -> Result<(), Fail> {
     let mut t = tower(3, &[1, 3, 2])?;
     t.turn(2)?;
-    assert_eq!(rt; t.trays(), &[3, 1, 2]);
+    assert_eq!(rt; t.trays(), [3, 1, 2].as_slice());
     t.turn(3)?;
-    assert_eq!(rt; t.trays(), &[2, 1, 3]);
+    assert_eq!(rt; t.trays(), [2, 1, 3].as_slice());
     assert!(rt; !t.is_home());
     t.turn(2)?;
-    assert_eq!(rt; t.trays(), &[1, 2, 3]);
+    assert_eq!(rt; t.trays(), [1, 2, 3].as_slice());
     assert!(rt; t.is_home());
     Ok(())
 }
@@ -108,7 +108,7 @@ fn a_refusal_changes_nothing(rt: HostRuntime) -> Result<(), Fail> {
     assert_eq!(rt; t.turn(1), Err(Fault::NoSuchTurn));
     assert_eq!(rt; t.turn(4), Err(Fault::NoSuchTurn));
     assert_eq!(rt; t.turn(255), Err(Fault::NoSuchTurn));
-    assert_eq!(rt; t.trays(), &[2, 3, 1]);
+    assert_eq!(rt; t.trays(), [2, 3, 1].as_slice());
     Ok(())
 }
 
