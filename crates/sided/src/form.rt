@@ -1,6 +1,5 @@
 ghost use Rattle.std.specs.Prelude.{◌≡◌, true};
-ghost use Rattle.sided.specs.Tray.{sided_tray};
-ghost use Rattle.std.proofs.Common.{rules};
+ghost use Rattle.sided.specs.Tray.{sided_regular, sided_tray};
 
 use crate::tray::SidedTray;
 use trays::Tray;
@@ -20,7 +19,7 @@ impl SidedTray {
 impl Tray for SidedTray {
     ghost form = { sided_tray };
 
-    ghost regular = { Prim.search rules };
+    ghost regular = { sided_regular };
 
     fn upright(number: u8) -> SidedTray {
         SidedTray {

@@ -1,6 +1,5 @@
 ghost use Rattle.std.specs.Prelude.{◌≡◌, ◌<◌, length};
-ghost use Rattle.trays.specs.Form.{TrayForm, Regular, number_at, number_tray, tray_at};
-ghost use Rattle.std.proofs.Common.{rules};
+ghost use Rattle.trays.specs.Form.{TrayForm, Regular, number_at, number_regular, number_tray, tray_at};
 
 // A tray as a machine holds it. `form` says what its number and its side are.
 pub trait Tray {
@@ -32,7 +31,7 @@ pub trait Tray {
 impl Tray for u8 {
     ghost form = { number_tray };
 
-    ghost regular = { Prim.search rules };
+    ghost regular = { number_regular };
 
     fn upright(number: u8) -> u8 {
         number
