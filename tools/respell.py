@@ -18,8 +18,8 @@ away-place bit-first bit-next bit-other bit-same bit-zero blank-stays blanks-rea
 block-moved block-turned changed-all changed-in changed-out changed-past changed-same changed-swap
 changed-twice count-apart count-given count-le count-words decides-leb digits-read dual-as-turns dual-begin
 every-decides filled-all first-in-order first-none flip-inside flip-within flipped-over from-accepted
-from-test home-like in-order-decides inverse-at inverse-fits inverse-kept inverse-like inverse-moved
-inverse-past inverse-permutation inverse-twice is-dual kind-dual kind-duals kind-lawful kind-name
+from-test home-like in-order-decides in-range inverse-at inverse-fits inverse-kept inverse-like inverse-moved
+inverse-past inverse-permutation inverse-twice is-dual is-w kind-dual kind-duals kind-lawful kind-name
 kind-relabelling laid-home last-from last-is last-to line-more line-tray mark-is marks-below marks-count
 marks-more marks-next marks-none mirror-base mirror-from mirror-highest mirror-home mirror-lowest mirror-to
 mirror-trays mirror-turn mirror-twice more-spun moved-from moved-permutation moved-relabelled no-inverse

@@ -37,6 +37,6 @@ pub(crate) fn check_refused<M: Settable + Drop>(
         Err(f) => {
             assert_eq!(rt; f, fault);
             Ok(())
-        },
+        }
     }
 }

@@ -19,7 +19,7 @@ fn check_misread(
         Err(m) => {
             assert_eq!(rt; m, Misread::Unexpected(at, expected));
             Ok(())
-        },
+        }
     }
 }
 
@@ -56,7 +56,7 @@ fn check_turns(rt: &impl Abort, q: &Request, turns: &[u8]) -> Result<(), Fail> {
         Task::Turns(asked) => {
             assert_eq!(rt; asked.as_slice(), turns);
             Ok(())
-        },
+        }
         Task::Dual => Err(Fail::new("the dual")),
     }
 }

@@ -32,9 +32,9 @@ pub read_none : (line : List ℕ) (seen : List Word) (rest : List ℕ) → seen 
 read_none line seen rest none all ws h = subst (λ (l : List Word). Words line (l ++ ws)) (sym none) (subst (λ (l : List ℕ). Words l ws) all h)
 
 pub read_more : (line piece rest next : List ℕ) (seen longer : List Word) (w : Word) → ReadTo line seen rest → ((gap : List ℕ) × (rest ≡ gap ++ (piece ++ next)) × (0 < length piece) × NoCharPasses is_not_whitespace gap × NoCharPasses is_whitespace piece × ((more : List ℕ) × EmptyOrStartsWithPassing is_whitespace next more)) → Spells piece w → longer ≡ seen ++ w ∷ [] → ReadTo line longer next
-read_more line piece rest next seen longer w h cut is-w is ws more =
+read_more line piece rest next seen longer w h cut is_w is ws more =
     let first : Cut rest piece next = record { gap = cut.0; whole = cut.1; blank = cut.3; some = cut.2; solid = cut.4; ends = cut.5 } in
-    subst (Words line) (sym (append_assoc seen (w ∷ []) ws) ∙ ap (λ (l : List Word). l ++ ws) (sym is)) (h (w ∷ ws) (piece, next, first, is-w, more))
+    subst (Words line) (sym (append_assoc seen (w ∷ []) ws) ∙ ap (λ (l : List Word). l ++ ws) (sym is)) (h (w ∷ ws) (piece, next, first, is_w, more))
 
 pub read_all : (line rest : List ℕ) (seen : List Word) → ReadTo line seen rest → NoCharPasses is_not_whitespace rest → Words line seen
 read_all line rest seen h none = subst (Words line) (append-nil seen) (h [] none)
