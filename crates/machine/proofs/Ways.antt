@@ -1,4 +1,4 @@
-use Rattle.std.proofs.Common.{◌≡◌, ℕ, true, List, [], ◌∷◌, ◌++◌, sym, refl, ap, ◌∙◌, subst, append_assoc, append-nil, arith}
+use Rattle.std.proofs.Common.{◌≡◌, ℕ, true, List, [], ◌∷◌, ◌++◌, sym, refl, ap, ◌∙◌, subst, append-nil, arith}
 use Rattle.std.proofs.lemmas.Bool.{true≢false}
 use Rattle.machine.specs.declared.fault.Fault.{Fault}
 use Rattle.machine.specs.declared.fault.Fault.TheVariants.{NoSuchTurn}
@@ -11,11 +11,6 @@ module _ {S : Type 0} (m : Meaning S) where
   -- Any way on from s by `rest`, put after these states, is a way from the start by ks.
   abbrev pub Resumes : S → List ℕ → List S → S → List ℕ → Type 0
   Resumes start ks states s rest = (ts : List S) (end : Ending) → Through m s rest ts end → Through m start ks (states ++ ts) end
-
-  pub resumes_more : (start : S) (ks : List ℕ) (states longer : List S) (s t : S) (k : ℕ) (rest more : List ℕ) → Resumes start ks states s rest → rest ≡ k ∷ more → InRange m s k → t ≡ m.after s k → longer ≡ states ++ t ∷ [] → Resumes start ks longer t more
-  resumes_more start ks states longer s t k rest more h e r to is ts end way =
-      subst (λ (l : List S). Through m start ks l end) (sym (append_assoc states (t ∷ []) ts) ∙ ap (λ (l : List S). l ++ ts) (sym is))
-      (h (t ∷ ts) end (subst (λ (l : List ℕ). Through m s l (t ∷ ts) end) (sym e) (r, to, way)))
 
   told_home : (s : S) (end : Ending) → Told m s end → m.home s ≡ true → end ≡ Home
   told_home s Home h e = refl
@@ -36,9 +31,6 @@ module _ {S : Type 0} (m : Meaning S) where
 
   pub follows : (s : S) (ks : List ℕ) (states : List S) (end : Ending) → Through m s ks states end → Follows m s ks states end
   follows s ks states end h = record { through = h; brings = through_brings s ks states end h; told = through_told s ks states end h }
-
-  pub resumes_start : (s : S) (ks : List ℕ) (states : List S) → states ≡ [] → Resumes s ks states s ks
-  resumes_start s ks states e ts end way = subst (λ (l : List S). Through m s ks (l ++ ts) end) (sym e) way
 
   -- the way ends here
   resumes_end : (start : S) (ks : List ℕ) (states : List S) (s : S) (rest : List ℕ) (end : Ending) → Resumes start ks states s rest → Through m s rest [] end → Follows m start ks states end

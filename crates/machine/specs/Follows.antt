@@ -1,4 +1,4 @@
-use Rattle.std.specs.Prelude.{◌≡◌, ℕ, true, false, List, [], ◌∷◌, Some, None, Option}
+use Rattle.std.specs.Prelude.{◌≡◌, ℕ, true, false, List, [], ◌∷◌, Ok, Err, Result}
 use Rattle.machine.specs.declared.fault.Fault.{Fault}
 use Rattle.machine.specs.declared.fault.Fault.TheVariants.{NoSuchTurn}
 use Rattle.machine.specs.declared.trace.Ending.{Ending}
@@ -25,6 +25,6 @@ pub record Follows {S : Type 0} (m : Meaning S) (s : S) (ks : List ℕ) (states 
   pub told : Brings m ks s → end ≡ Home
 
 -- What is owed once the turns are made up to the state t: where one was refused the way has ended so, else as t is home or not.
-abbrev pub Made : {S : Type 0} → Meaning S → S → List ℕ → List S → S → Option Fault → Type 0
-Made m s ks states t (Some f) = Follows m s ks states (Refused f)
-Made m s ks states t None = (m.home t ≡ true → Follows m s ks states Home) × (m.home t ≡ false → Follows m s ks states NotHome)
+abbrev pub Made : {S U : Type 0} → Meaning S → S → List ℕ → List S → S → Result U Fault → Type 0
+Made m s ks states t (Err f) = Follows m s ks states (Refused f)
+Made m s ks states t (Ok _) = (m.home t ≡ true → Follows m s ks states Home) × (m.home t ≡ false → Follows m s ks states NotHome)

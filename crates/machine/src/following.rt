@@ -1,4 +1,4 @@
-ghost use Rattle.std.specs.Prelude.{◌≡◌, [], map, IfOk};
+ghost use Rattle.std.specs.Prelude.{◌≡◌, ◌≤◌, map, length, vec_len, vec_capacity, IfOk};
 ghost use Rattle.machine.specs.Follows.{Follows, Made};
 
 use crate::fault::Fault;
@@ -12,42 +12,33 @@ pub fn follow<M: Machine + Copy>(
     machine: M,
     turns: &[u8],
 ) -> Result<Trace<M>, AllocError>
-    ensures { IfOk result (λ j. Follows M.Machine.meaning (M.Machine.state machine) turns.now (map M.Machine.state j.states.items) j.ending) }
+    ensures { IfOk result (λ j. Follows M.meaning (M.state machine) turns.now
+        (map M.state j.states.items) j.ending) }
 {
     let mut machine = machine;
-    let mut states = Vec::new(heap);
-    if let Some(fault) = make_turns(&mut machine, turns, &mut states)? {
-        return Ok(Trace {
-            states,
-            ending: Ending::Refused(fault),
-        });
-    }
-    if machine.is_home() {
-        return Ok(Trace {
-            states,
-            ending: Ending::Home,
-        });
-    }
-    Ok(Trace {
-        states,
-        ending: Ending::NotHome,
-    })
+    let mut states = Vec::with_capacity(heap, turns.len())?;
+    let ending = match make_turns(&mut machine, turns, &mut states) {
+        Err(fault) => Ending::Refused(fault),
+        Ok(()) if machine.is_home() => Ending::Home,
+        Ok(()) => Ending::NotHome,
+    };
+    Ok(Trace { states, ending })
 }
 
-// Makes the turns and keeps the machine after each, up to the last or to a refusal, which it answers.
+// Makes the turns and keeps the machine after each, up to the last or to a refusal.
 fn make_turns<M: Machine + Copy>(
     machine: &mut M,
     turns: &[u8],
     states: &mut Vec<M>,
-) -> Result<Option<Fault>, AllocError>
-    requires { states.old.items ≡ [] }
-    ensures { IfOk result (λ o. Made M.Machine.meaning (M.Machine.state machine.old) turns.now (map M.Machine.state states.new.items) (M.Machine.state machine.new) o) }
+) -> Result<(), Fault>
+    requires none { vec_len states.old ≡ 0 }
+    requires room { length turns.now ≤ vec_capacity states.old }
+    ensures { Made M.meaning (M.state machine.old) turns.now
+        (map M.state states.new.items) (M.state machine.new) result }
 {
     for k in turns {
-        if let Err(fault) = machine.turn(*k) {
-            return Ok(Some(fault));
-        }
-        states.push(*machine)?;
+        machine.turn(*k)?;
+        states.push_reserved(*machine);
     }
-    Ok(None)
+    Ok(())
 }

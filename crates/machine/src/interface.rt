@@ -1,11 +1,11 @@
-ghost use Rattle.std.specs.Prelude.{◌≡◌, ℕ, ◌≤◌, Decides};
+ghost use Rattle.std.specs.Prelude.{◌≡◌, ℕ, ◌≤◌, ◌↔◌, IsTrue};
 ghost use Rattle.machine.specs.Duals.{Duals, IsDual};
 ghost use Rattle.machine.specs.Meaning.{Meaning, Lawful};
 ghost use Rattle.machine.specs.Turned.{Turned};
 
 use crate::fault::Fault;
 
-// The turn numbers that a machine has, both ends included.
+// The turn numbers that a machine has, both ends included. A `RangeInclusive` would be no plainer: it is no `Copy`, and also says how far it was walked.
 #[derive(Clone, Copy, PartialEq, Eq, Debug)]
 pub struct TurnRange {
     pub lowest: u8,
@@ -14,9 +14,9 @@ pub struct TurnRange {
 
 impl TurnRange {
     pub fn contains(self, k: u8) -> bool
-        ensures { Decides result ((self.lowest ≤ k) × (k ≤ self.highest)) }
+        ensures { IsTrue result ↔ ((self.lowest ≤ k) × (k ≤ self.highest)) }
     {
-        self.lowest <= k && k <= self.highest
+        (self.lowest..=self.highest).contains(&k)
     }
 }
 
@@ -24,29 +24,22 @@ impl TurnRange {
 pub trait Machine {
     type State;
 
-    // the command letter and the least number of trays of the kind
+    // the command letter and the least number of trays of the kind, each with its value for clauses
     const LETTER: u8;
 
     const LEAST: u8;
 
-    ghost letter: { ℕ };
+    ghost LETTER: { ℕ };
 
-    ghost least: { ℕ };
+    ghost LEAST: { ℕ };
 
     ghost meaning: { Meaning Self.State };
 
     ghost state: { Self → Self.State };
 
-    // `LETTER`, with its value known to generic code.
-    fn command_letter() -> u8
-        ensures { result ≡ letter };
-
-    // `LEAST`, with its value known to generic code.
-    fn least_trays() -> u8
-        ensures { result ≡ least };
-
     fn range(&self) -> TurnRange
-        ensures { (result.lowest ≡ meaning.lowest (state self.now)) × (result.highest ≡ meaning.highest (state self.now)) };
+        ensures lowest { result.lowest ≡ meaning.lowest (state self.now) }
+        ensures highest { result.highest ≡ meaning.highest (state self.now) };
 
     fn is_home(&self) -> bool
         ensures { result ≡ meaning.home (state self.now) };
@@ -64,7 +57,7 @@ pub trait Dual: Machine {
 
     // A list of turns brings this machine home exactly when the list read backwards brings the dual home; the dual of the dual is this machine.
     fn dual(&self) -> Self
-        ensures { IsDual Self.Machine.meaning mirror (Self.Machine.state self.now) (Self.Machine.state result) };
+        ensures { IsDual Self.meaning mirror (Self.state self.now) (Self.state result) };
 
-    ghost duals: { Duals Self.Machine.meaning mirror };
+    ghost duals: { Duals Self.meaning mirror };
 }

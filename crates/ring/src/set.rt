@@ -1,11 +1,10 @@
 ghost use Rattle.std.specs.Prelude.{◌≡◌, Some};
 ghost use Rattle.trays.specs.Form.{number_tray};
-ghost use Rattle.trays.specs.Setting.{Accepted, Spanned};
 ghost use Rattle.ring.specs.Ring.{held};
 
 use crate::kind::TrayRing;
 use machine::{Fault, Machine};
-use trays::{Settable, check_trays, home_trays, read_trays};
+use trays::{Arrangement, Settable, Setup};
 
 impl TrayRing {
     // How many trays a turn turns round.
@@ -13,14 +12,6 @@ impl TrayRing {
         ensures { result ≡ self.now.span }
     {
         self.span
-    }
-
-    // The ring of trays that have passed every check.
-    fn built(n: u8, span: u8, trays: [u8; 32]) -> TrayRing
-        requires { (Accepted number_tray 4 n trays) × (Spanned n (Some span)) }
-        ensures { (result.n ≡ n) × (result.span ≡ span) × (result.trays ≡ trays) }
-    {
-        TrayRing { n, span, trays }
     }
 }
 
@@ -38,13 +29,20 @@ impl Settable for TrayRing {
     ghost first = { Some 2 };
 
     fn new() -> TrayRing {
-        TrayRing::built(4, 2, home_trays(4))
+        TrayRing {
+            arrangement: Arrangement::home(4),
+            span: 2,
+        }
     }
 
-    fn set(&mut self, n: u8, span: u8, bytes: &[u8; 32]) -> Result<(), Fault> {
-        let trays = read_trays(bytes);
-        check_trays(Self::LEAST, n, Some(span), &trays)?;
-        *self = TrayRing::built(n, span, trays);
+    fn trays(&self) -> &[u8] {
+        self.arrangement.trays()
+    }
+
+    fn set(&mut self, setup: &Setup<u8>) -> Result<(), Fault> {
+        let span = setup.span;
+        let arrangement = Arrangement::from_setup(Self::LEAST, &setup.with_span(Some(span)))?;
+        *self = TrayRing { arrangement, span };
         Ok(())
     }
 }

@@ -1,4 +1,4 @@
-ghost use Rattle.std.specs.Prelude.{◌≡◌, ◌-◌, ◌<◌, ◌≤◌, take};
+ghost use Rattle.std.specs.Prelude.{◌≡◌, ◌-◌, ◌<◌, ◌≤◌};
 ghost use Rattle.machine.specs.Duals.{IsDual};
 ghost use Rattle.trays.specs.Form.{number_tray, number_regular};
 ghost use Rattle.trays.specs.Run.{RunReversed, place_on};
@@ -8,62 +8,61 @@ ghost use Rattle.ring.specs.Laws.{base, ring_kind};
 
 use crate::kind::TrayRing;
 use machine::{Dual, Fault, Machine, TurnRange};
-use trays::{invert, is_in_order};
+use trays::Arrangement;
 
 impl TrayRing {
-    // The trays from place 1 on.
-    pub fn trays(&self) -> &[u8]
-        ensures { result.now ≡ take self.now.n self.now.trays }
-    {
-        &self.trays[0..self.n as usize]
-    }
-
     // The place that lies j steps on from place `from`, counted round.
     fn place_on(&self, from: usize, j: usize) -> usize
-        requires { (from < self.now.n) × (j < self.now.n) }
-        ensures { result ≡ place_on self.now.n from j }
+        requires from { from < self.now.arrangement.n }
+        requires steps { j < self.now.arrangement.n }
+        ensures { result ≡ place_on self.now.arrangement.n from j }
     {
         let place = from + j;
-        if place < self.n as usize {
-            return place;
-        }
-        place - self.n as usize
+        let n = self.arrangement.n as usize;
+        if place < n { place } else { place - n }
     }
 
     // The trays once the run from place `from` on is turned round.
     fn run_turned(&self, from: usize) -> [u8; 32]
-        requires { from < self.now.n }
+        requires { from < self.now.arrangement.n }
         ensures value { result ≡ run_of self.now from }
-        ensures reversed { RunReversed number_tray self.now.n self.now.span from self.now.trays result }
+        ensures reversed { RunReversed number_tray self.now.arrangement.n self.now.span from
+            self.now.arrangement.trays result }
     {
-        let mut trays = self.trays;
+        let mut trays = self.arrangement.trays;
         let span = self.span as usize;
+        // A chain would be no plainer: both places are counted by the same j, the one forwards and the other backwards.
         for j in 0..span {
-            trays[self.place_on(from, j)] = self.trays[self.place_on(from, span - 1 - j)];
+            trays[self.place_on(from, j)] = self.arrangement.trays[self.place_on(
+                from,
+                span - 1 - j,
+            )];
         }
         trays
     }
 
     // The ring after turn p.
-    fn spun(self, p: u8) -> TrayRing
-        requires { (1 ≤ p) × (p ≤ self.n) }
-        ensures { result ≡ turned self p }
+    fn spun(&self, p: u8) -> TrayRing
+        requires low { 1 ≤ p }
+        requires high { p ≤ self.now.arrangement.n }
+        ensures { result ≡ turned self.now p }
     {
         TrayRing {
-            n: self.n,
+            arrangement: Arrangement {
+                n: self.arrangement.n,
+                trays: self.run_turned(p as usize - 1),
+            },
             span: self.span,
-            trays: self.run_turned(p as usize - 1),
         }
     }
 
     // The ring whose trays and places have changed parts.
-    fn inverted(self) -> TrayRing
-        ensures { IsDual ring mirrored self result }
+    fn inverted(&self) -> TrayRing
+        ensures { IsDual ring mirrored self.now result }
     {
         TrayRing {
-            n: self.n,
+            arrangement: self.arrangement.inverted(),
             span: self.span,
-            trays: invert(self.n, &self.trays),
         }
     }
 }
@@ -75,9 +74,9 @@ impl Machine for TrayRing {
 
     const LEAST: u8 = 4;
 
-    ghost letter = { 82 };
+    ghost LETTER = { 82 };
 
-    ghost least = { 4 };
+    ghost LEAST = { 4 };
 
     ghost meaning = { ring };
 
@@ -85,25 +84,18 @@ impl Machine for TrayRing {
 
     ghost lawful = { kind_lawful number_tray number_regular ring mirrored base ring_kind };
 
-    fn command_letter() -> u8 {
-        Self::LETTER
-    }
-
-    fn least_trays() -> u8 {
-        Self::LEAST
-    }
-
     fn range(&self) -> TurnRange {
         TurnRange {
             lowest: 1,
-            highest: self.n,
+            highest: self.arrangement.n,
         }
     }
 
     fn is_home(&self) -> bool {
-        is_in_order(self.trays())
+        self.arrangement.is_home()
     }
 
+    // A tower's turn has the same shape. One body for both would be no plainer: it would have to be given the turn that each makes, with what that asks and says.
     fn turn(&mut self, p: u8) -> Result<(), Fault> {
         if !self.range().contains(p) {
             return Err(Fault::NoSuchTurn);

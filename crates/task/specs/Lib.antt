@@ -1,2 +1,3 @@
+pub mod Failures
 pub mod Outcomes
 pub mod Work

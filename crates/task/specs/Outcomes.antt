@@ -1,34 +1,52 @@
-use Rattle.std.specs.Prelude.{◌≡◌, ℕ, ◌<◌, List, [], map, Some, None, Option, ◌≢◌, slice_index}
+use Rattle.std.specs.Prelude.{◌≡◌, ⊤, ℕ, ◌<◌, List, [], map, Some, None, Option, Ok, Err, Result, ◌≢◌, slice_index}
 use Rattle.std.specs.Option.{unwrap_or}
-use Rattle.plain.specs.Plain as towers
+use Rattle.machine.specs.declared.fault.Fault.{Fault}
 use Rattle.ring.specs.Ring as rings
-use Rattle.sided.specs.Sided as sides
-use Rattle.sided.specs.Tray.{sided_tray}
+use Rattle.towers.specs.Towers as towers
+use Rattle.towers.specs.Tray.{sided_tray}
 use Rattle.text.specs.declared.word.Kind.{Kind}
 use Rattle.text.specs.declared.word.Kind.TheVariants as kind
 use Rattle.text.specs.declared.word.Word.{Word}
 use Rattle.text.specs.Lines.{Stuck, Written}
 use Rattle.text.specs.Stacks.{tray_count}
 use Rattle.text.specs.Words.{Words}
-use Rattle.trays.specs.Form.{number_tray}
+use Rattle.trays.specs.Form.{TrayForm, number_tray}
+use Rattle.trays.specs.Setting.{Holding, Refused}
+use Rattle.task.specs.declared.failure.Failure.{Failure}
+use Rattle.task.specs.declared.failure.Failure.TheVariants as failure
 use Rattle.task.specs.declared.outcome.Outcome.{Outcome}
-use Rattle.task.specs.declared.outcome.Outcome.TheVariants.{Nothing, Misread, Plain, Sided, Ring}
+use Rattle.task.specs.declared.outcome.Outcome.TheVariants.{Plain, Sided, Ring}
 use Rattle.task.specs.Work.{Attempted}
 
 -- The 32 bytes of these trays, with 0 after the last.
 abbrev pub Bytes : List ℕ → List ℕ → Type 0
 Bytes trays bytes = (k : ℕ) → k < 32 → slice_index bytes k ≡ slice_index trays k
 
+-- What a tower is to hold that is set from n and these bytes.
+abbrev pub in_tower : {A : Type 0} → TrayForm A → ℕ → List ℕ → Holding A
+in_tower f n bytes = record { count = n; span = None; trays = map f.read bytes }
+
+-- What a ring is to hold that is set from n, this span and these bytes. No line of a ring has no span.
+abbrev pub in_ring : ℕ → Option ℕ → List ℕ → Holding ℕ
+in_ring n span bytes = record { count = n; span = Some (unwrap_or span 0); trays = map number_tray.read bytes }
+
+-- Why no machine of this kind is set from n, this span and these bytes.
+abbrev pub RefusedAs : Kind → ℕ → Option ℕ → List ℕ → Fault → Type 0
+RefusedAs kind.Plain n span bytes fault = Refused number_tray 1 n None (map number_tray.read bytes) fault
+RefusedAs kind.Sided n span bytes fault = Refused sided_tray 1 n None (map sided_tray.read bytes) fault
+RefusedAs kind.Ring n span bytes fault = Refused number_tray 4 n (Some (unwrap_or span 0)) (map number_tray.read bytes) fault
+
 -- What is done for a machine of this kind, of n trays, with this span and these bytes, and this task.
-abbrev pub Settled : Kind → ℕ → Option ℕ → List ℕ → Option (List ℕ) → Outcome → Type 0
-Settled k n span bytes task Nothing = ⊥
-Settled k n span bytes task (Misread at expected) = ⊥
-Settled k n span bytes task (Plain a) = (k ≡ kind.Plain) × Attempted number_tray 1 towers.held towers.plain towers.mirrored (λ s. s) n None (map number_tray.read bytes) task a
-Settled k n span bytes task (Sided a) = (k ≡ kind.Sided) × Attempted sided_tray 1 sides.held sides.sided sides.mirrored (λ s. s) n None (map sided_tray.read bytes) task a
-Settled k n span bytes task (Ring a) = (k ≡ kind.Ring) × Attempted number_tray 4 rings.held rings.ring rings.mirrored (λ s. s) n (Some (unwrap_or span 0)) (map number_tray.read bytes) task a
+abbrev pub Settled : Kind → ℕ → Option ℕ → List ℕ → Option (List ℕ) → Result Outcome Failure → Type 0
+Settled k n span bytes task (Ok (Plain w)) = (k ≡ kind.Plain) × Attempted k number_tray 1 towers.held (towers.tower 2) towers.mirrored (λ s. s) (in_tower number_tray n bytes) task (Ok w)
+Settled k n span bytes task (Ok (Sided w)) = (k ≡ kind.Sided) × Attempted k sided_tray 1 towers.held (towers.tower 1) towers.mirrored (λ s. s) (in_tower sided_tray n bytes) task (Ok w)
+Settled k n span bytes task (Ok (Ring w)) = (k ≡ kind.Ring) × Attempted k number_tray 4 rings.held rings.ring rings.mirrored (λ s. s) (in_ring n span bytes) task (Ok w)
+Settled k n span bytes task (Err (failure.Unexpected at expected)) = ⊥
+Settled k n span bytes task (Err (failure.Refused j fault)) = (j ≡ k) × RefusedAs k n span bytes fault
+Settled k n span bytes task (Err failure.NoMemory) = ⊤
 
 -- The words make a request, and this is done for it.
-pub record Requested (ws : List Word) (o : Outcome) : Type 0 where
+pub record Requested (ws : List Word) (o : Result Outcome Failure) : Type 0 where
   pub kind : Kind
   pub trays : List ℕ
   pub count : Option ℕ
@@ -40,13 +58,14 @@ pub record Requested (ws : List Word) (o : Outcome) : Type 0 where
   pub settled : Settled kind (tray_count trays count) span bytes task o
 
 -- What comes of the words of a line.
-abbrev pub Replies : List Word → Outcome → Type 0
-Replies ws Nothing = ws ≡ []
-Replies ws (Misread at expected) = (ws ≢ []) × Stuck ws at expected
-Replies ws (Plain a) = Requested ws (Plain a)
-Replies ws (Sided a) = Requested ws (Sided a)
-Replies ws (Ring a) = Requested ws (Ring a)
+abbrev pub Replies : List Word → Result (Option Outcome) Failure → Type 0
+Replies ws (Ok None) = ws ≡ []
+Replies ws (Ok (Some o)) = Requested ws (Ok o)
+Replies ws (Err (failure.Unexpected at expected)) = (ws ≢ []) × Stuck ws at expected
+Replies ws (Err (failure.Refused k fault)) = Requested ws (Err (failure.Refused k fault))
+Replies ws (Err failure.NoMemory) = ⊤
 
--- What comes of a line.
-abbrev pub Answers : List ℕ → Outcome → Type 0
-Answers line o = (ws : List Word) × Words line ws × Replies ws o
+-- What comes of a line. Nothing is said where memory is wanting.
+abbrev pub Answers : List ℕ → Result (Option Outcome) Failure → Type 0
+Answers line (Err failure.NoMemory) = ⊤
+Answers line r = (ws : List Word) × Words line ws × Replies ws r

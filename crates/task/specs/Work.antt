@@ -1,10 +1,13 @@
-use Rattle.std.specs.Prelude.{◌≡◌, ℕ, List, map, Some, None, Ok, Err, vec_items, Option, Result}
-use Rattle.machine.specs.declared.fault.Fault.{Fault}
+use Rattle.std.specs.Prelude.{◌≡◌, ⊤, ℕ, List, map, Some, None, Ok, Err, vec_items, Option, Result}
 use Rattle.machine.specs.Duals.{IsDual}
 use Rattle.machine.specs.Follows.{Follows}
 use Rattle.machine.specs.Meaning.{Meaning}
 use Rattle.trays.specs.Form.{TrayForm}
-use Rattle.trays.specs.Setting.{Accepted, Holding, Refused, Spanned}
+use Rattle.text.specs.declared.word.Kind.{Kind}
+use Rattle.trays.specs.Setting.{Holding, Holds}
+use Rattle.trays.specs.Setting as setting
+use Rattle.task.specs.declared.failure.Failure.{Failure}
+use Rattle.task.specs.declared.failure.Failure.TheVariants.{Unexpected, Refused, NoMemory}
 use Rattle.task.specs.declared.outcome.Done.{Done}
 use Rattle.task.specs.declared.outcome.Done.TheVariants.{Followed, Mirrored}
 use Rattle.task.specs.declared.outcome.Work.{Work}
@@ -16,8 +19,9 @@ Does m mirror state start (Some turns) (Mirrored dual) = ⊥
 Does m mirror state start None (Followed ts trace) = ⊥
 Does m mirror state start None (Mirrored dual) = IsDual m mirror (state start) (state dual)
 
--- What comes of setting a machine from n, a span and the trays xs, and of its task: it was accepted, holds them, and the task is done; or why it was refused.
-abbrev pub Attempted : {S M A : Type 0} → TrayForm A → ℕ → (M → Holding A) → Meaning S → (S → S) → (M → S) → ℕ → Option ℕ → List A → Option (List ℕ) → Result (Work M) Fault → Type 0
-Attempted f least holding m mirror state n span xs task (Ok w) =
-    Spanned n span × Accepted f least n xs × ((holding w.start).count ≡ n) × ((holding w.start).span ≡ span) × ((holding w.start).trays ≡ xs) × Does m mirror state w.start task w.done
-Attempted f least holding m mirror state n span xs task (Err fault) = Refused f least n span xs fault
+-- What comes of setting a machine of this kind to hold this, and of its task: it holds it, and the task is done; or why it was refused.
+abbrev pub Attempted : {S M A : Type 0} → Kind → TrayForm A → ℕ → (M → Holding A) → Meaning S → (S → S) → (M → S) → Holding A → Option (List ℕ) → Result (Work M) Failure → Type 0
+Attempted kind f least holding m mirror state want task (Ok w) = Holds f least want (holding w.start) × Does m mirror state w.start task w.done
+Attempted kind f least holding m mirror state want task (Err (Unexpected at expected)) = ⊥
+Attempted kind f least holding m mirror state want task (Err (Refused k fault)) = (k ≡ kind) × setting.Refused f least want.count want.span want.trays fault
+Attempted kind f least holding m mirror state want task (Err NoMemory) = ⊤

@@ -1,20 +1,13 @@
-use machine::{Fault, Trace};
-use plain::PlainTower;
+use machine::Trace;
 use ring::TrayRing;
-use sided::SidedTower;
-use text::Expected;
+use towers::{PlainTower, SidedTower};
 
-// What came of a line.
+// What was done for a line, by the kind of machine.
 #[derive(Drop)]
 pub enum Outcome {
-    // the line has no words
-    Nothing,
-    // the word at this index, from 0, may not stand there, or the line ends there
-    Misread(usize, Expected),
-    // a machine of the kind was set and the task done, or it was not set
-    Plain(Result<Work<PlainTower>, Fault>),
-    Sided(Result<Work<SidedTower>, Fault>),
-    Ring(Result<Work<TrayRing>, Fault>),
+    Plain(Work<PlainTower>),
+    Sided(Work<SidedTower>),
+    Ring(Work<TrayRing>),
 }
 
 // A machine as it was set, and what was done with it.
@@ -27,7 +20,7 @@ pub struct Work<M> {
 // What was done with a machine.
 #[derive(Drop)]
 pub enum Done<M> {
-    // these turns were made, as far as it has them
+    // These turns were made, as far as it has them. They stand apart from the states, since there are more of them where one is refused: a list of pairs would be no plainer.
     Followed(Vec<u8>, Trace<M>),
     // its dual was asked for
     Mirrored(M),

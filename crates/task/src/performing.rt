@@ -1,45 +1,57 @@
-ghost use Rattle.std.specs.Prelude.{List, IfOk};
+ghost use Rattle.std.specs.Prelude.{List};
 ghost use Rattle.text.specs.Readers.{Asks};
 ghost use Rattle.task.specs.Outcomes.{Answers, Replies, Requested};
 
+use crate::failure::Failure;
 use crate::outcome::Outcome;
 use crate::working::attempt;
-use std::alloc::{AllocError, Global};
-use text::{Kind, Misread, Request, Word, parse, read_words};
+use std::alloc::Global;
+use text::{Kind, Request, Word, parse, read_words};
+use trays::Setup;
 
-// Does what a line asks for.
-pub fn perform(heap: Global, line: &str) -> Result<Outcome, AllocError>
-    ensures { IfOk result (λ o. Answers line.now o) }
+// Does what a line asks for; a line without words asks for nothing.
+pub fn perform(heap: Global, line: &str) -> Result<Option<Outcome>, Failure>
+    ensures { Answers line.now result }
 {
     let words = read_words(heap, line)?;
     reply(heap, &words)
 }
 
-fn reply(heap: Global, words: &[Word]) -> Result<Outcome, AllocError>
-    ensures { IfOk result (λ o. Replies words.now o) }
+fn reply(heap: Global, words: &[Word]) -> Result<Option<Outcome>, Failure>
+    ensures { Replies words.now result }
 {
     if words.is_empty() {
-        return Ok(Outcome::Nothing);
+        return Ok(None);
     }
-    match parse(heap, words) {
-        Ok(request) => carry_out(heap, request),
-        Err(Misread::Unexpected(at, expected)) => Ok(Outcome::Misread(at, expected)),
-        Err(Misread::NoMemory) => Err(AllocError),
-    }
+    let request = parse(heap, words)?;
+    Ok(Some(carry_out(heap, request)?))
 }
 
 // Sets a machine and does the task.
-fn carry_out(heap: Global, request: Request) -> Result<Outcome, AllocError>
-    ensures { IfOk result (λ o. ((ws : List Word) → Asks ws request → Requested ws o)) }
+fn carry_out(heap: Global, request: Request) -> Result<Outcome, Failure>
+    ensures { (ws : List Word) → Asks ws request → Requested ws result }
 {
     let n = request.tray_count();
     let bytes = request.tray_bytes();
-    match request.kind {
-        Kind::Plain => Ok(Outcome::Plain(attempt(heap, n, (), &bytes, request.task)?)),
-        Kind::Sided => Ok(Outcome::Sided(attempt(heap, n, (), &bytes, request.task)?)),
+    let Request {
+        kind,
+        span,
+        task,
+        ..
+    } = request;
+    match kind {
+        Kind::Plain => {
+            let setup = Setup { n, span: (), bytes };
+            attempt(heap, kind, &setup, task).map(Outcome::Plain)
+        }
+        Kind::Sided => {
+            let setup = Setup { n, span: (), bytes };
+            attempt(heap, kind, &setup, task).map(Outcome::Sided)
+        }
         Kind::Ring => {
-            let span = request.span.unwrap_or(0);
-            Ok(Outcome::Ring(attempt(heap, n, span, &bytes, request.task)?))
+            let span = span.unwrap_or(0);
+            let setup = Setup { n, span, bytes };
+            attempt(heap, kind, &setup, task).map(Outcome::Ring)
         }
     }
 }

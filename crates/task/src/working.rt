@@ -1,33 +1,36 @@
-ghost use Rattle.std.specs.Prelude.{◌≡◌, map, IfOk};
+ghost use Rattle.std.specs.Prelude.{◌≡◌, IfOk};
 ghost use Rattle.text.specs.Lines.{asked};
+ghost use Rattle.trays.specs.Setting.{holding_of};
 ghost use Rattle.task.specs.Work.{Attempted, Does};
 
+use crate::failure::Failure;
 use crate::outcome::{Done, Work};
-use machine::{Dual, Fault, follow};
+use machine::{Dual, follow};
 use std::alloc::{AllocError, Global};
-use text::Task;
-use trays::Settable;
+use text::{Kind, Task};
+use trays::{Settable, Setup};
 
-// Sets a machine and does the task; or answers why it was not set.
+// Sets a machine of this kind and does the task; or answers why it was not set.
 pub fn attempt<M: Settable + Dual + Copy>(
     heap: Global,
-    n: u8,
-    span: M::Span,
-    bytes: &[u8; 32],
+    kind: Kind,
+    setup: &Setup<M::Span>,
     task: Task,
-) -> Result<Result<Work<M>, Fault>, AllocError>
-    ensures { IfOk result (λ a. Attempted M.Settable.form M.Machine.least M.Settable.holding M.Machine.meaning M.Dual.mirror M.Machine.state n (M.Settable.spanning span) (map M.Settable.form.read bytes.now) (asked task) a) }
+) -> Result<Work<M>, Failure>
+    ensures { Attempted kind M.form M.LEAST M.holding M.meaning M.mirror M.state
+        (holding_of M.form M.spanning setup.now) (asked task) result }
 {
     let mut start = M::new();
-    if let Err(fault) = start.set(n, span, bytes) {
-        return Ok(Err(fault));
-    }
-    Ok(Ok(work(heap, start, task)?))
+    start
+        .set(setup)
+        .map_err(|fault| Failure::Refused(kind, fault))?;
+    Ok(work(heap, start, task)?)
 }
 
 // Makes the turns, or finds the dual.
 pub fn work<M: Dual + Copy>(heap: Global, start: M, task: Task) -> Result<Work<M>, AllocError>
-    ensures { IfOk result (λ w. (w.start ≡ start) × Does M.Machine.meaning M.Dual.mirror M.Machine.state start (asked task) w.done) }
+    ensures start { IfOk result (λ w. w.start ≡ start) }
+    ensures done { IfOk result (λ w. Does M.meaning M.mirror M.state start (asked task) w.done) }
 {
     match task {
         Task::Turns(turns) => {

@@ -1,10 +1,9 @@
-use crate::given::bytes;
+use crate::given::setup;
 use machine::{Dual, Ending, Machine, follow};
-use plain::PlainTower;
 use ring::TrayRing;
-use sided::{SidedTower, SidedTray};
 use std::process::Abort;
 use std::test::*;
+use towers::{PlainTower, SidedTower, SidedTray};
 use trays::Settable;
 
 // The turns end so, and read backwards they end so on the dual.
@@ -26,7 +25,7 @@ fn check_backwards<M: Dual + Copy>(
 #[test]
 fn of_a_plain_tower(rt: HostRuntime) -> Result<(), Fail> {
     let mut t = PlainTower::new();
-    t.set(3, (), &bytes(&[2, 3, 1]))?;
+    t.set(&setup(3, (), &[2, 3, 1]))?;
     assert_eq!(rt; t.dual().trays(), [3, 1, 2].as_slice());
     assert_eq!(rt; t.dual().dual().trays(), [2, 3, 1].as_slice());
     check_backwards(&rt, t, &[3, 2], &[2, 3], Ending::NotHome)?;
@@ -36,7 +35,7 @@ fn of_a_plain_tower(rt: HostRuntime) -> Result<(), Fail> {
 #[test]
 fn of_a_sided_tower(rt: HostRuntime) -> Result<(), Fail> {
     let mut t = SidedTower::new();
-    t.set(3, (), &bytes(&[3, 129, 2]))?;
+    t.set(&setup(3, (), &[3, 129, 2]))?;
     let dual = t.dual();
     assert_eq!(rt;
         dual.trays(),
@@ -57,7 +56,7 @@ fn of_a_sided_tower(rt: HostRuntime) -> Result<(), Fail> {
         .as_slice()
     );
     assert_eq!(rt; dual.dual().trays(), t.trays());
-    t.set(3, (), &bytes(&[3, 1, 2]))?;
+    t.set(&setup(3, (), &[3, 1, 2]))?;
     check_backwards(&rt, t, &[1, 3, 2], &[2, 3, 1], Ending::Home)?;
     check_backwards(&rt, t, &[2, 3, 1], &[1, 3, 2], Ending::NotHome)
 }
@@ -65,7 +64,7 @@ fn of_a_sided_tower(rt: HostRuntime) -> Result<(), Fail> {
 #[test]
 fn of_a_ring(rt: HostRuntime) -> Result<(), Fail> {
     let mut r = TrayRing::new();
-    r.set(5, 3, &bytes(&[4, 1, 3, 2, 5]))?;
+    r.set(&setup(5, 3, &[4, 1, 3, 2, 5]))?;
     assert_eq!(rt; r.dual().trays(), [2, 4, 3, 1, 5].as_slice());
     assert_eq!(rt; r.dual().span(), 3);
     assert_eq!(rt; r.dual().dual().trays(), [4, 1, 3, 2, 5].as_slice());

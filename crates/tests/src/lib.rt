@@ -1,9 +1,15 @@
 #![tactic(auto)]
 
 #[cfg(test)]
+mod arrangements;
+#[cfg(test)]
 mod duals;
 #[cfg(test)]
 mod given;
+#[cfg(test)]
+mod plain;
+#[cfg(test)]
+mod prints;
 #[cfg(test)]
 mod reversals;
 #[cfg(test)]
@@ -12,5 +18,3 @@ mod rings;
 mod sides;
 #[cfg(test)]
 mod texts;
-#[cfg(test)]
-mod towers;

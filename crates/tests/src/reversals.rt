@@ -1,6 +1,6 @@
 use reversal::reverse_part;
-use sided::SidedTray;
 use std::test::*;
+use towers::SidedTray;
 
 #[test]
 fn a_part(rt: HostRuntime) -> Result<(), Fail> {

@@ -1,4 +1,4 @@
-use crate::given::{bytes, check_refused, machine};
+use crate::given::{check_refused, machine, setup};
 use machine::{Fault, Machine, TurnRange};
 use ring::TrayRing;
 use std::process::Abort;
@@ -92,7 +92,7 @@ fn the_earlier_number_wins(rt: HostRuntime) -> Result<(), Fail> {
 #[test]
 fn a_refusal_changes_nothing(rt: HostRuntime) -> Result<(), Fail> {
     let mut r = ring(5, 3, &[4, 1, 3, 2, 5])?;
-    assert_eq!(rt; r.set(4, 5, &bytes(&[1, 2, 3, 4])), Err(Fault::Span));
+    assert_eq!(rt; r.set(&setup(4, 5, &[1, 2, 3, 4])), Err(Fault::Span));
     assert_eq!(rt; r.turn(0), Err(Fault::NoSuchTurn));
     assert_eq!(rt; r.turn(6), Err(Fault::NoSuchTurn));
     assert_eq!(rt; r.trays(), [4, 1, 3, 2, 5].as_slice());

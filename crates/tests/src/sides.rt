@@ -1,7 +1,7 @@
-use crate::given::{bytes, check_refused, machine};
+use crate::given::{check_refused, setup, tower};
 use machine::{Fault, Machine, TurnRange};
-use sided::{SidedTower, SidedTray};
 use std::test::*;
+use towers::{SidedTower, SidedTray};
 use trays::{Settable, Tray};
 
 fn door_here(number: u8) -> SidedTray {
@@ -13,11 +13,6 @@ fn door_here(number: u8) -> SidedTray {
 
 fn door_away(number: u8) -> SidedTray {
     SidedTray { number, away: true }
-}
-
-// A tower of n trays, or the refusal.
-fn tower(n: u8, numbers: &[u8]) -> Result<SidedTower, Fault> {
-    machine(n, (), numbers)
 }
 
 #[test]
@@ -38,7 +33,7 @@ fn one_tray(rt: HostRuntime) -> Result<(), Fail> {
     t.turn(1)?;
     assert_eq!(rt; t.trays(), [door_away(1)].as_slice());
     assert!(rt; !t.is_home());
-    let mut t = tower(1, &[129])?;
+    let mut t = tower::<SidedTray>(1, &[129])?;
     assert!(rt; !t.is_home());
     t.turn(1)?;
     assert!(rt; t.is_home());
@@ -47,7 +42,7 @@ fn one_tray(rt: HostRuntime) -> Result<(), Fail> {
 
 #[test]
 fn three_trays(rt: HostRuntime) -> Result<(), Fail> {
-    let mut t = tower(3, &[3, 129, 2])?;
+    let mut t = tower::<SidedTray>(3, &[3, 129, 2])?;
     assert_eq!(rt;
         t.range(),
         TurnRange {
@@ -76,8 +71,8 @@ fn three_trays(rt: HostRuntime) -> Result<(), Fail> {
 
 #[test]
 fn numbers_in_order_with_a_door_away(rt: HostRuntime) -> Result<(), Fail> {
-    assert!(rt; tower(3, &[1, 2, 3])?.is_home());
-    assert!(rt; !tower(3, &[1, 130, 3])?.is_home());
+    assert!(rt; tower::<SidedTray>(3, &[1, 2, 3])?.is_home());
+    assert!(rt; !tower::<SidedTray>(3, &[1, 130, 3])?.is_home());
     Ok(())
 }
 
@@ -95,9 +90,9 @@ fn refusals(rt: HostRuntime) -> Result<(), Fail> {
 
 #[test]
 fn a_refusal_changes_nothing(rt: HostRuntime) -> Result<(), Fail> {
-    let mut t = tower(2, &[130, 1])?;
-    assert_eq!(rt; t.set(0, (), &bytes(&[1])), Err(Fault::TrayCount));
-    assert_eq!(rt; t.set(2, (), &bytes(&[128, 1])), Err(Fault::TrayNumber(0)));
+    let mut t = tower::<SidedTray>(2, &[130, 1])?;
+    assert_eq!(rt; t.set(&setup(0, (), &[1])), Err(Fault::TrayCount));
+    assert_eq!(rt; t.set(&setup(2, (), &[128, 1])), Err(Fault::TrayNumber(0)));
     assert_eq!(rt; t.trays(), [door_away(2), door_here(1)].as_slice());
     Ok(())
 }

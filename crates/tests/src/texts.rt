@@ -1,8 +1,9 @@
 use machine::{Ending, Fault};
 use std::process::Abort;
 use std::test::*;
-use task::{Done, Outcome, perform};
-use text::{Expected, Kind, Misread, Request, Task, Word, meaning, parse, read_words};
+use task::{Done, Failure, Outcome, perform};
+use text::{Expected, Kind, Misread, Request, Task, Word, parse, read_words};
+use trays::Settable;
 
 fn request(rt: &impl AllocGlobal, line: &str) -> Result<Request, Misread> {
     parse(rt.alloc(), &read_words(rt.alloc(), line)?)
@@ -25,29 +26,29 @@ fn check_misread(
 
 #[test]
 fn words(rt: HostRuntime) -> Result<(), Fail> {
-    assert_eq!(rt; meaning("plain"), Word::Kind(Kind::Plain));
-    assert_eq!(rt; meaning("sided"), Word::Kind(Kind::Sided));
-    assert_eq!(rt; meaning("ring"), Word::Kind(Kind::Ring));
-    assert_eq!(rt; meaning("count"), Word::Count);
-    assert_eq!(rt; meaning("span"), Word::Span);
-    assert_eq!(rt; meaning("turns"), Word::Turns);
-    assert_eq!(rt; meaning("dual"), Word::Dual);
-    assert_eq!(rt; meaning("Plain"), Word::Other);
+    assert_eq!(rt; Word::from("plain"), Word::Kind(Kind::Plain));
+    assert_eq!(rt; Word::from("sided"), Word::Kind(Kind::Sided));
+    assert_eq!(rt; Word::from("ring"), Word::Kind(Kind::Ring));
+    assert_eq!(rt; Word::from("count"), Word::Count);
+    assert_eq!(rt; Word::from("span"), Word::Span);
+    assert_eq!(rt; Word::from("turns"), Word::Turns);
+    assert_eq!(rt; Word::from("dual"), Word::Dual);
+    assert_eq!(rt; Word::from("Plain"), Word::Other);
     Ok(())
 }
 
 #[test]
 fn numbers(rt: HostRuntime) -> Result<(), Fail> {
-    assert_eq!(rt; meaning("255"), Word::Number(255));
-    assert_eq!(rt; meaning("+1"), Word::Number(1));
-    assert_eq!(rt; meaning("256"), Word::Other);
-    assert_eq!(rt; meaning("-1"), Word::Away(1));
-    assert_eq!(rt; meaning("-0"), Word::Away(0));
-    assert_eq!(rt; meaning("-127"), Word::Away(127));
-    assert_eq!(rt; meaning("-128"), Word::Other);
-    assert_eq!(rt; meaning("-+1"), Word::Other);
-    assert_eq!(rt; meaning("--1"), Word::Other);
-    assert_eq!(rt; meaning("-"), Word::Other);
+    assert_eq!(rt; Word::from("255"), Word::Number(255));
+    assert_eq!(rt; Word::from("+1"), Word::Number(1));
+    assert_eq!(rt; Word::from("256"), Word::Other);
+    assert_eq!(rt; Word::from("-1"), Word::Away(1));
+    assert_eq!(rt; Word::from("-0"), Word::Away(0));
+    assert_eq!(rt; Word::from("-127"), Word::Away(127));
+    assert_eq!(rt; Word::from("-128"), Word::Other);
+    assert_eq!(rt; Word::from("-+1"), Word::Other);
+    assert_eq!(rt; Word::from("--1"), Word::Other);
+    assert_eq!(rt; Word::from("-"), Word::Other);
     Ok(())
 }
 
@@ -124,7 +125,7 @@ fn misread_spans(rt: HostRuntime) -> Result<(), Fail> {
 
 #[test]
 fn outcomes(rt: HostRuntime) -> Result<(), Fail> {
-    let Outcome::Plain(Ok(work)) = perform(rt.alloc(), "plain 1 3 2 turns 2 3 2")? else {
+    let Ok(Some(Outcome::Plain(work))) = perform(rt.alloc(), "plain 1 3 2 turns 2 3 2") else {
         return Err(Fail::new("not done"));
     };
     assert_eq!(rt; work.start.trays(), [1, 3, 2].as_slice());
@@ -132,16 +133,24 @@ fn outcomes(rt: HostRuntime) -> Result<(), Fail> {
         return Err(Fail::new("not followed"));
     };
     assert_eq!(rt; trace.ending, Ending::Home);
-    let Outcome::Sided(Err(fault)) = perform(rt.alloc(), "sided 1 -1 turns")? else {
+    let Err(failure) = perform(rt.alloc(), "sided 1 -1 turns") else {
         return Err(Fail::new("not refused"));
     };
-    assert_eq!(rt; fault, Fault::TrayRepeated(1));
+    assert_eq!(rt;
+        failure,
+        Failure::Refused(Kind::Sided, Fault::TrayRepeated(1))
+    );
+    let Err(failure) = perform(rt.alloc(), "plain 1 x turns") else {
+        return Err(Fail::new("understood"));
+    };
+    assert_eq!(rt; failure, Failure::Unexpected(2, Expected::Tray));
+    assert!(rt; matches!(perform(rt.alloc(), "  "), Ok(None)));
     Ok(())
 }
 
 #[test]
 fn duals_of_lines(rt: HostRuntime) -> Result<(), Fail> {
-    let Outcome::Ring(Ok(work)) = perform(rt.alloc(), "ring 3 1 4 2 span 3 dual")? else {
+    let Ok(Some(Outcome::Ring(work))) = perform(rt.alloc(), "ring 3 1 4 2 span 3 dual") else {
         return Err(Fail::new("not done"));
     };
     let Done::Mirrored(dual) = &work.done else {

@@ -1,6 +1,6 @@
-use Rattle.std.specs.Prelude.{◌≡◌, ℕ, ◌+◌, ◌<◌, Bool, true, false, ◌||◌, ◌⊎◌, List, [], ◌∷◌, ◌++◌, map, length, take, is_some, Some, None, vec_items, Option, nat_lt, slice_index_or}
+use Rattle.std.specs.Prelude.{◌≡◌, ℕ, ◌+◌, ◌<◌, Bool, true, false, ◌||◌, ◌⊎◌, List, [], ◌∷◌, ◌++◌, map, length, take, is_some, Some, None, vec_items, Option, nat_lt, slice_index_or, IsFalse, IsSome, IsTrue, ⊤}
 use Rattle.text.specs.declared.word.Kind.{Kind}
-use Rattle.text.specs.declared.word.Kind.TheVariants.{Plain, Sided, Ring}
+use Rattle.text.specs.declared.word.Kind.TheVariants.{Ring}
 use Rattle.text.specs.declared.word.Word.{Word}
 use Rattle.text.specs.declared.word.Word.TheVariants.{Kind as Machine, Count, Span, Turns, Dual, Number, Away, Other}
 use Rattle.text.specs.declared.request.Task.{Task}
@@ -12,21 +12,15 @@ use Rattle.text.specs.declared.request.Misread.TheVariants.{Unexpected, NoMemory
 
 -- The word writes this tray: a number is the byte itself, and n after a minus sign is the byte 128 + n.
 abbrev pub TrayWord : Word → ℕ → Type 0
-TrayWord (Machine kind) tray = ⊥
-TrayWord Count tray = ⊥
-TrayWord Span tray = ⊥
-TrayWord Turns tray = ⊥
-TrayWord Dual tray = ⊥
 TrayWord (Number n) tray = tray ≡ n
 TrayWord (Away n) tray = tray ≡ 128 + n
-TrayWord Other tray = ⊥
+TrayWord w tray = ⊥
 
 -- The words write these trays, each its own.
 abbrev pub TrayWords : List Word → List ℕ → Type 0
-TrayWords [] [] = Unit {0}
-TrayWords [] (tray ∷ trays) = ⊥
-TrayWords (w ∷ ws) [] = ⊥
+TrayWords [] [] = ⊤
 TrayWords (w ∷ ws) (tray ∷ trays) = TrayWord w tray × TrayWords ws trays
+TrayWords ws trays = ⊥
 
 -- The count of the trays, where a line gives one.
 abbrev pub count_words : Option ℕ → List Word
@@ -49,9 +43,8 @@ asked (task.Turns turns) = Some (vec_items turns)
 asked task.Dual = None
 
 abbrev pub is_ring : Kind → Bool
-is_ring Plain = false
-is_ring Sided = false
 is_ring Ring = true
+is_ring kind = false
 
 -- A ring has a span, and a tower has none.
 abbrev pub HasSpan : Kind → Option ℕ → Type 0
@@ -68,45 +61,39 @@ Written ws kind trays count span task = HasSpan kind span × Line ws kind trays 
 
 -- What may stand where this is expected. No line has a number above 127 after a minus sign, so none may stand anywhere.
 abbrev pub may_stand : Expected → Word → Bool
-may_stand place.Kind w =
-    elim w [ Machine kind ↦ true | Count ↦ false | Span ↦ false | Turns ↦ false | Dual ↦ false | Number n ↦ false | Away n ↦ false | Other ↦ false ]
-may_stand place.Tray w =
-    elim w [ Machine kind ↦ false | Count ↦ true | Span ↦ false | Turns ↦ true | Dual ↦ true | Number n ↦ true | Away n ↦ nat_lt n 128 | Other ↦ false ]
-may_stand place.RingTray w =
-    elim w [ Machine kind ↦ false | Count ↦ true | Span ↦ true | Turns ↦ false | Dual ↦ false | Number n ↦ true | Away n ↦ nat_lt n 128 | Other ↦ false ]
-may_stand place.CountNumber w =
-    elim w [ Machine kind ↦ false | Count ↦ false | Span ↦ false | Turns ↦ false | Dual ↦ false | Number n ↦ true | Away n ↦ false | Other ↦ false ]
-may_stand place.SpanWord w =
-    elim w [ Machine kind ↦ false | Count ↦ false | Span ↦ true | Turns ↦ false | Dual ↦ false | Number n ↦ false | Away n ↦ false | Other ↦ false ]
-may_stand place.SpanNumber w =
-    elim w [ Machine kind ↦ false | Count ↦ false | Span ↦ false | Turns ↦ false | Dual ↦ false | Number n ↦ true | Away n ↦ false | Other ↦ false ]
-may_stand place.TaskWord w =
-    elim w [ Machine kind ↦ false | Count ↦ false | Span ↦ false | Turns ↦ true | Dual ↦ true | Number n ↦ false | Away n ↦ false | Other ↦ false ]
-may_stand place.Turn w =
-    elim w [ Machine kind ↦ false | Count ↦ false | Span ↦ false | Turns ↦ false | Dual ↦ false | Number n ↦ true | Away n ↦ false | Other ↦ false ]
-may_stand place.End w = false
+may_stand place.Kind (Machine kind) = true
+may_stand place.Tray (Number n) = true
+may_stand place.Tray (Away n) = nat_lt n 128
+may_stand place.Tray Count = true
+may_stand place.Tray Turns = true
+may_stand place.Tray Dual = true
+may_stand place.RingTray (Number n) = true
+may_stand place.RingTray (Away n) = nat_lt n 128
+may_stand place.RingTray Count = true
+may_stand place.RingTray Span = true
+may_stand place.CountNumber (Number n) = true
+may_stand place.SpanWord Span = true
+may_stand place.SpanNumber (Number n) = true
+may_stand place.TaskWord Turns = true
+may_stand place.TaskWord Dual = true
+may_stand place.Turn (Number n) = true
+may_stand e w = false
 
 -- Whether the line may end where this is expected.
 abbrev pub may_end : Expected → Bool
-may_end place.Kind = false
-may_end place.Tray = false
-may_end place.RingTray = false
-may_end place.CountNumber = false
-may_end place.SpanWord = false
-may_end place.SpanNumber = false
-may_end place.TaskWord = false
 may_end place.Turn = true
 may_end place.End = true
+may_end e = false
 
 -- The words ws begin a line, with this kind, these trays, this count, this span and these turns, and this is expected next.
 abbrev pub Begun : Expected → Kind → List ℕ → Option ℕ → Option ℕ → List ℕ → List Word → Type 0
 Begun place.Kind kind trays count span turns ws = (trays ≡ []) × (count ≡ None) × (span ≡ None) × (turns ≡ []) × (ws ≡ [])
-Begun place.Tray kind trays count span turns ws = (is_ring kind ≡ false) × (count ≡ None) × (span ≡ None) × (turns ≡ []) × Line ws kind trays None None []
-Begun place.RingTray kind trays count span turns ws = (is_ring kind ≡ true) × (count ≡ None) × (span ≡ None) × (turns ≡ []) × Line ws kind trays None None []
+Begun place.Tray kind trays count span turns ws = IsFalse (is_ring kind) × (count ≡ None) × (span ≡ None) × (turns ≡ []) × Line ws kind trays None None []
+Begun place.RingTray kind trays count span turns ws = IsTrue (is_ring kind) × (count ≡ None) × (span ≡ None) × (turns ≡ []) × Line ws kind trays None None []
 Begun place.CountNumber kind trays count span turns ws = (count ≡ None) × (span ≡ None) × (turns ≡ []) × Line ws kind trays None None (Count ∷ [])
-Begun place.SpanWord kind trays count span turns ws = (is_ring kind ≡ true) × (is_some count ≡ true) × (span ≡ None) × (turns ≡ []) × Line ws kind trays count None []
-Begun place.SpanNumber kind trays count span turns ws = (is_ring kind ≡ true) × (span ≡ None) × (turns ≡ []) × Line ws kind trays count None (Span ∷ [])
-Begun place.TaskWord kind trays count span turns ws = HasSpan kind span × ((is_some span || is_some count) ≡ true) × (turns ≡ []) × Line ws kind trays count span []
+Begun place.SpanWord kind trays count span turns ws = IsTrue (is_ring kind) × IsSome count × (span ≡ None) × (turns ≡ []) × Line ws kind trays count None []
+Begun place.SpanNumber kind trays count span turns ws = IsTrue (is_ring kind) × (span ≡ None) × (turns ≡ []) × Line ws kind trays count None (Span ∷ [])
+Begun place.TaskWord kind trays count span turns ws = HasSpan kind span × IsTrue (is_some span || is_some count) × (turns ≡ []) × Line ws kind trays count span []
 Begun place.Turn kind trays count span turns ws = Written ws kind trays count span (Some turns)
 Begun place.End kind trays count span turns ws = (turns ≡ []) × Written ws kind trays count span None
 
@@ -118,8 +105,8 @@ pub record Stuck (ws : List Word) (at : ℕ) (expected : Expected) : Type 0 wher
   pub span : Option ℕ
   pub turns : List ℕ
   pub begun : Begun expected kind trays count span turns (take at ws)
-  pub wrong : ((at < length ws) × (may_stand expected (slice_index_or ws at Other) ≡ false)) ⊎ ((at ≡ length ws) × (may_end expected ≡ false))
+  pub wrong : ((at < length ws) × IsFalse (may_stand expected (slice_index_or ws at Other))) ⊎ ((at ≡ length ws) × IsFalse (may_end expected))
 
 abbrev pub Misreads : List Word → Misread → Type 0
 Misreads ws (Unexpected at expected) = Stuck ws at expected
-Misreads ws NoMemory = Unit {0}
+Misreads ws NoMemory = ⊤

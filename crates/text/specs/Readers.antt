@@ -1,12 +1,14 @@
-use Rattle.std.specs.Prelude.{◌≡◌, ℕ, Bool, true, false, List, [], ◌∷◌, ◌++◌, Some, None, vec_items, Option}
+use Rattle.std.specs.Prelude.{◌≡◌, ℕ, List, [], ◌∷◌, ◌++◌, vec_items, IsTrue, IsFalse, ⊤}
 use Rattle.text.specs.declared.reader.Reader.{Reader}
 use Rattle.text.specs.declared.request.Expected.{Expected}
 use Rattle.text.specs.declared.request.Expected.TheVariants as place
+use Rattle.text.specs.declared.request.Misread.{Misread}
+use Rattle.text.specs.declared.request.Misread.TheVariants.{Unexpected, NoMemory}
 use Rattle.text.specs.declared.request.Request.{Request}
 use Rattle.text.specs.declared.word.Kind.{Kind}
 use Rattle.text.specs.declared.word.Kind.TheVariants.{Plain, Sided, Ring}
 use Rattle.text.specs.declared.word.Word.{Word}
-use Rattle.text.specs.Lines.{Begun, Stuck, Written, asked, may_end, may_stand}
+use Rattle.text.specs.Lines.{Begun, Written, asked, may_end, may_stand}
 
 -- What is expected after the kind.
 abbrev pub after_kind : Kind → Expected
@@ -24,15 +26,18 @@ after_count Ring = place.SpanWord
 abbrev pub Begins : Reader → List Word → Type 0
 Begins r ws = Begun r.expected r.kind (vec_items r.trays) r.count r.span (vec_items r.turns) ws
 
--- The reader has read one word more; or the word may not stand there, and nothing has changed.
-abbrev pub Stepped : Reader → Word → Bool → Reader → Type 0
-Stepped before w true after = (ws : List Word) → Begins before ws → Begins after (ws ++ w ∷ [])
-Stepped before w false after = (may_stand before.expected w ≡ false) × (after ≡ before)
+-- The reader has read one word more.
+abbrev pub Stepped : Reader → Word → Reader → Type 0
+Stepped before w after = (ws : List Word) → Begins before ws → Begins after (ws ++ w ∷ [])
 
--- The words were read to the end, or the reader stands before the word at this index.
-abbrev pub ReadAll : List Word → Option ℕ → Reader → Type 0
-ReadAll ws None r = Begins r ws × (may_end r.expected ≡ true)
-ReadAll ws (Some at) r = Stuck ws at r.expected
+-- The word may not stand at this index, where the reader has come to, and nothing has changed; or there was no memory.
+abbrev pub Refuses : Reader → ℕ → Word → Reader → Misread → Type 0
+Refuses before at w after (Unexpected i expected) = (i ≡ at) × (expected ≡ before.expected) × IsFalse (may_stand expected w) × (after ≡ before)
+Refuses before at w after NoMemory = ⊤
+
+-- The reader has read these words, and the line may end after them.
+abbrev pub IsRead : List Word → Reader → Type 0
+IsRead ws r = Begins r ws × IsTrue (may_end r.expected)
 
 -- These words ask this.
 abbrev pub Asks : List Word → Request → Type 0

@@ -42,8 +42,8 @@ Spells bs Other =
     × (bs ≢ codes "span")
     × (bs ≢ codes "turns")
     × (bs ≢ codes "dual")
-    × ((n : ℕ) → IsNumber bs n → ⊥)
-    × ((n : ℕ) → IsAway bs n → ⊥)
+    × ((n : ℕ) → ¬ IsNumber bs n)
+    × ((n : ℕ) → ¬ IsAway bs n)
 
 -- bs is white space, then the piece, then `rest`, which is empty or begins with white space
 pub record Cut (bs piece rest : List ℕ) : Type 0 where

@@ -3,11 +3,10 @@
 mod parsing;
 mod reader;
 mod request;
-mod stack;
 mod word;
 mod words;
 
 pub use parsing::parse;
 pub use request::{Expected, Misread, Request, Task};
 pub use word::{Kind, Word};
-pub use words::{meaning, read_words};
+pub use words::read_words;

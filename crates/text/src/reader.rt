@@ -1,13 +1,180 @@
-use crate::request::Expected;
-use crate::word::Kind;
+ghost use Rattle.std.specs.Prelude.{◌≡◌, List, [], IfErr, IsTrue, OnOk};
+ghost use Rattle.text.specs.declared.word.Word.TheVariants.{Away, Number};
+ghost use Rattle.text.specs.Lines.{Misreads, may_end, may_stand};
+ghost use Rattle.text.specs.Readers.{Asks, Begins, IsRead, Refuses, Stepped, after_count, after_kind};
 
-// A line half read: what has been read, and what is expected next. Before the first word the kind says nothing.
+use crate::request::{Expected, Misread, Request, Task};
+use crate::word::{Kind, Word};
+use std::alloc::{AllocError, Global};
+
+// A line half read: what has been read, and what is expected next. Before the first word the kind says nothing; an `Option` would be no plainer, since every later step would have to open it.
 #[derive(Drop)]
 pub(crate) struct Reader {
-    pub(crate) kind: Kind,
-    pub(crate) trays: Vec<u8>,
-    pub(crate) count: Option<u8>,
-    pub(crate) span: Option<u8>,
-    pub(crate) turns: Vec<u8>,
-    pub(crate) expected: Expected,
+    kind: Kind,
+    trays: Vec<u8>,
+    count: Option<u8>,
+    span: Option<u8>,
+    turns: Vec<u8>,
+    expected: Expected,
+}
+
+impl Reader {
+    pub(crate) fn new(heap: Global) -> Reader
+        ensures { Begins result [] }
+    {
+        Reader {
+            kind: Kind::Plain,
+            trays: Vec::new(heap),
+            count: None,
+            span: None,
+            turns: Vec::new(heap),
+            expected: Expected::Kind,
+        }
+    }
+
+    // Takes all the words and the end of the line, or answers the first of these that may not stand there.
+    pub(crate) fn read(&mut self, words: &[Word]) -> Result<(), Misread>
+        requires { Begins self.old [] }
+        ensures ok { OnOk result (IsRead words.now self.new) }
+        ensures err { IfErr result (Misreads words.now) }
+    {
+        for (at, word) in words.iter().enumerate() {
+            self.step(at, *word)?;
+        }
+        if !self.expected.may_end() {
+            return Err(Misread::Unexpected(words.len(), self.expected));
+        }
+        Ok(())
+    }
+
+    // Takes the next word, which is at this index, or answers that it may not stand there.
+    fn step(&mut self, at: usize, word: Word) -> Result<(), Misread>
+        ensures ok { OnOk result (Stepped self.old word self.new) }
+        ensures err { IfErr result (Refuses self.old at word self.new) }
+    {
+        if !self.expected.allows(word) {
+            return Err(Misread::Unexpected(at, self.expected));
+        }
+        match word {
+            Word::Kind(kind) => {
+                self.kind = kind;
+                self.expected = Expected::after_kind(kind);
+            }
+            Word::Count => self.expected = Expected::CountNumber,
+            Word::Span => self.expected = Expected::SpanNumber,
+            Word::Turns => self.expected = Expected::Turn,
+            Word::Dual => self.expected = Expected::End,
+            Word::Number(n) => self.take(n)?,
+            Word::Away(n) => self.take_away(n)?,
+            Word::Other => unreachable!(),
+        }
+        Ok(())
+    }
+
+    // Takes a number as what is expected here.
+    fn take(&mut self, n: u8) -> Result<(), AllocError>
+        requires { IsTrue (may_stand self.old.expected (Number n)) }
+        ensures { OnOk result (Stepped self.old (Number n) self.new) }
+    {
+        match self.expected {
+            Expected::Tray | Expected::RingTray => self.trays.push(n)?,
+            Expected::CountNumber => {
+                self.count = Some(n);
+                self.expected = Expected::after_count(self.kind);
+            }
+            Expected::SpanNumber => {
+                self.span = Some(n);
+                self.expected = Expected::TaskWord;
+            }
+            Expected::Turn => self.turns.push(n)?,
+            _ => unreachable!(),
+        }
+        Ok(())
+    }
+
+    // Takes the tray that n after a minus sign writes.
+    fn take_away(&mut self, n: u8) -> Result<(), AllocError>
+        requires { IsTrue (may_stand self.old.expected (Away n)) }
+        ensures { OnOk result (Stepped self.old (Away n) self.new) }
+    {
+        self.trays.push(128 + n)?;
+        Ok(())
+    }
+
+    // The request that has been read.
+    pub(crate) fn finish(self) -> Request
+        requires { IsTrue (may_end self.expected) }
+        ensures { (ws : List Word) → Begins self ws → Asks ws result }
+    {
+        let Reader {
+            kind,
+            trays,
+            count,
+            span,
+            turns,
+            expected,
+        } = self;
+        let task = match expected {
+            Expected::Turn => Task::Turns(turns),
+            _ => Task::Dual,
+        };
+        Request {
+            kind,
+            trays,
+            count,
+            span,
+            task,
+        }
+    }
+}
+
+impl Expected {
+    // Whether the word may stand here.
+    fn allows(self, word: Word) -> bool
+        ensures { result ≡ may_stand self word }
+    {
+        match word {
+            Word::Kind(_) => matches!(self, Expected::Kind),
+            Word::Count => matches!(self, Expected::Tray | Expected::RingTray),
+            Word::Span => matches!(self, Expected::RingTray | Expected::SpanWord),
+            Word::Turns | Word::Dual => matches!(self, Expected::Tray | Expected::TaskWord),
+            Word::Number(_) => matches!(
+                self,
+                Expected::Tray
+                    | Expected::RingTray
+                    | Expected::CountNumber
+                    | Expected::SpanNumber
+                    | Expected::Turn
+            ),
+            Word::Away(n) => n < 128 && matches!(self, Expected::Tray | Expected::RingTray),
+            Word::Other => false,
+        }
+    }
+
+    // Whether the line may end here.
+    fn may_end(self) -> bool
+        ensures { result ≡ may_end self }
+    {
+        matches!(self, Expected::Turn | Expected::End)
+    }
+
+    // What is expected after the kind.
+    fn after_kind(kind: Kind) -> Expected
+        ensures { result ≡ after_kind kind }
+    {
+        match kind {
+            Kind::Plain | Kind::Sided => Expected::Tray,
+            Kind::Ring => Expected::RingTray,
+        }
+    }
+
+    // What is expected after the count of the trays.
+    fn after_count(kind: Kind) -> Expected
+        ensures { result ≡ after_count kind }
+    {
+        match kind {
+            Kind::Plain | Kind::Sided => Expected::TaskWord,
+            Kind::Ring => Expected::SpanWord,
+        }
+    }
 }

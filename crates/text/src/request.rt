@@ -1,10 +1,13 @@
-ghost use Rattle.std.specs.Prelude.{◌≡◌};
+ghost use Rattle.std.specs.Prelude.{◌≡◌, ℕ, ◌<◌, Some, slice_index};
 ghost use Rattle.text.specs.declared.request.Misread.TheVariants.{NoMemory};
+ghost use Rattle.text.specs.Stacks.{tray_count};
+ghost use Rattle.text.specs.Texts.{expected_text};
 
 use crate::word::Kind;
 use std::alloc::AllocError;
+use std::{array, fmt};
 
-// What a line asks for: the kind of machine, its trays from the top, their count and the span where the line gives them, and the task.
+// What a line asks for: the kind of machine, its trays from the top, their count and the span where the line gives them, and the task. A span in the case of a ring would be no plainer: it would be a second enum of the kinds.
 #[derive(Drop)]
 pub struct Request {
     pub kind: Kind,
@@ -14,7 +17,28 @@ pub struct Request {
     pub task: Task,
 }
 
-// What is to be done with the machine.
+impl Request {
+    // The number of trays: as counted, or as the line says where it has no more than 32.
+    pub fn tray_count(&self) -> u8
+        ensures { result ≡ tray_count self.now.trays.items self.now.count }
+    {
+        let counted = u8::try_from(self.trays.len()).unwrap_or(u8::MAX);
+        if counted > 32 {
+            counted
+        } else {
+            self.count.unwrap_or(counted)
+        }
+    }
+
+    // The first 32 trays as bytes, with 0 after the last.
+    pub fn tray_bytes(&self) -> [u8; 32]
+        ensures { (k : ℕ) → k < 32 → slice_index result k ≡ slice_index self.now.trays.items k }
+    {
+        array::from_fn(|k| self.trays.get(k).copied().unwrap_or(0))
+    }
+}
+
+// What is to be done with the machine. An `Option` of turns would be no plainer: whatever else is to be done is one more case.
 #[derive(Drop)]
 pub enum Task {
     // make these turns
@@ -44,6 +68,24 @@ pub enum Expected {
     Turn,
     // the end of the line
     End,
+}
+
+impl fmt::Display for Expected {
+    ghost output = { λ expected. Some (expected_text expected) };
+
+    fn fmt<W: fmt::Write>(&self, f: &mut fmt::Formatter<W>) -> fmt::Result {
+        f.write_str(match self {
+            Expected::Kind => "`plain`, `sided` or `ring`",
+            Expected::Tray => "a tray (0 to 255, or -0 to -127), `count`, `turns` or `dual`",
+            Expected::RingTray => "a tray (0 to 255, or -0 to -127), `count` or `span`",
+            Expected::CountNumber => "the number of trays, from 0 to 255",
+            Expected::SpanWord => "`span`",
+            Expected::SpanNumber => "the span, from 0 to 255",
+            Expected::TaskWord => "`turns` or `dual`",
+            Expected::Turn => "a turn number from 0 to 255",
+            Expected::End => "the end of the line",
+        })
+    }
 }
 
 // Why a line is not understood.

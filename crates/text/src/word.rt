@@ -1,9 +1,26 @@
+ghost use Rattle.std.specs.Prelude.{ℕ, ◌<◌, Some, MatchOption};
+ghost use Rattle.text.specs.Words.{IsAway, IsUnsigned, Spells, kind_name};
+
+use std::fmt;
+
 // The kind of machine.
 #[derive(Clone, Copy, PartialEq, Eq, Debug)]
 pub enum Kind {
     Plain,
     Sided,
     Ring,
+}
+
+impl fmt::Display for Kind {
+    ghost output = { λ kind. Some (kind_name kind) };
+
+    fn fmt<W: fmt::Write>(&self, f: &mut fmt::Formatter<W>) -> fmt::Result {
+        f.write_str(match self {
+            Kind::Plain => "plain",
+            Kind::Sided => "sided",
+            Kind::Ring => "ring",
+        })
+    }
 }
 
 // A word of a line.
@@ -19,4 +36,44 @@ pub enum Word {
     // a minus sign and a decimal number from 0 to 127
     Away(u8),
     Other,
+}
+
+// What the text means as a word of a line.
+impl From<&str> for Word {
+    ghost from_gives = { λ text word. Spells text.now word };
+
+    fn from(text: &str) -> Word {
+        // A `FromStr` of `Kind` would be no plainer: its error is one that nobody reads.
+        match text {
+            "plain" => Word::Kind(Kind::Plain),
+            "sided" => Word::Kind(Kind::Sided),
+            "ring" => Word::Kind(Kind::Ring),
+            "count" => Word::Count,
+            "span" => Word::Span,
+            "turns" => Word::Turns,
+            "dual" => Word::Dual,
+            _ => match text.parse() {
+                Ok(n) => Word::Number(n),
+                Err(_) => away(text).map_or(Word::Other, Word::Away),
+            },
+        }
+    }
+}
+
+// The number from 0 to 127 that is written by digits right after a minus sign.
+fn away(text: &str) -> Option<u8>
+    ensures { MatchOption result ((n : ℕ) → ¬ IsAway text.now n) (λ n. IsAway text.now n) }
+{
+    text.strip_prefix('-')
+        .and_then(unsigned)
+        .filter(|n| *n < 128)
+}
+
+// The number that is written by digits with no sign before them.
+fn unsigned(text: &str) -> Option<u8>
+    ensures { MatchOption result
+        ((n : ℕ) → n < 256 → ¬ IsUnsigned text.now n)
+        (λ n. IsUnsigned text.now n) }
+{
+    text.parse().ok().filter(|_| !text.starts_with('+'))
 }

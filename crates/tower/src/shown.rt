@@ -1,62 +1,52 @@
-use plain::PlainTower;
-use ring::TrayRing;
-use sided::SidedTower;
-use std::alloc::{AllocError, Global};
+use machine::Fault;
+use std::fmt;
+use text::Kind;
 
-// A machine that can be printed.
-pub(crate) trait Shown {
-    // The kind of machine and all that it was set with.
-    fn described(&self, heap: Global) -> Result<String, AllocError>;
+// Trays as they are printed, with a space before each.
+#[derive(Clone, Copy)]
+pub(crate) struct Listed<'a, T>(pub(crate) &'a [T]);
 
-    // Its trays, a space before each.
-    fn listed(&self, heap: Global) -> Result<String, AllocError>;
-}
-
-impl Shown for PlainTower {
-    fn described(&self, heap: Global) -> Result<String, AllocError> {
-        let trays = self.listed(heap)?;
-        format!(in heap; "plain{trays}")
-    }
-
-    fn listed(&self, heap: Global) -> Result<String, AllocError> {
-        numbers(heap, self.trays())
-    }
-}
-
-impl Shown for SidedTower {
-    fn described(&self, heap: Global) -> Result<String, AllocError> {
-        let trays = self.listed(heap)?;
-        format!(in heap; "sided{trays}")
-    }
-
-    fn listed(&self, heap: Global) -> Result<String, AllocError> {
-        let mut text = String::new(heap);
-        for tray in self.trays() {
-            let sign = if tray.away { "-" } else { "" };
-            let number = tray.number;
-            text.push_str(format!(in heap; " {sign}{number}")?.as_str())?;
+impl<'a, T: fmt::Display> fmt::Display for Listed<'a, T> {
+    fn fmt<W: fmt::Write>(&self, f: &mut fmt::Formatter<W>) -> fmt::Result {
+        for tray in self.0 {
+            write!(f, " {tray}")?;
         }
-        Ok(text)
+        Ok(())
     }
 }
 
-impl Shown for TrayRing {
-    fn described(&self, heap: Global) -> Result<String, AllocError> {
-        let trays = self.listed(heap)?;
-        let span = self.span();
-        format!(in heap; "ring{trays} span {span}")
-    }
+// Why a machine of this kind refused to be set, or to make this turn.
+#[derive(Clone, Copy)]
+pub(crate) struct Refusal {
+    pub(crate) kind: Kind,
+    pub(crate) fault: Fault,
+    pub(crate) turn: Option<u8>,
+}
 
-    fn listed(&self, heap: Global) -> Result<String, AllocError> {
-        numbers(heap, self.trays())
+impl Refusal {
+    fn reason(&self) -> &'static str {
+        match (self.fault, self.kind) {
+            (Fault::TrayCount, Kind::Ring) => "the number of trays is below 4 or above 32",
+            (Fault::TrayCount, _) => "the number of trays is below 1 or above 32",
+            (Fault::Span, _) => "the span is below 2 or above the number of trays",
+            (Fault::TrayNumber(_), _) => "the tray number is 0 or above the number of trays",
+            (Fault::TrayRepeated(_), _) => "the tray number stands at an earlier place too",
+            (Fault::TrayBeyond(_), _) => "the byte stands after the last tray and is not 0",
+            (Fault::NoSuchTurn, Kind::Ring) => "the ring does not have this turn",
+            (Fault::NoSuchTurn, _) => "the tower does not have this turn",
+        }
     }
 }
 
-// The numbers, a space before each.
-fn numbers(heap: Global, numbers: &[u8]) -> Result<String, AllocError> {
-    let mut text = String::new(heap);
-    for number in numbers {
-        text.push_str(format!(in heap; " {number}")?.as_str())?;
+// The number of the refusal, the tray byte or the turn at fault, and what is wrong.
+impl fmt::Display for Refusal {
+    fn fmt<W: fmt::Write>(&self, f: &mut fmt::Formatter<W>) -> fmt::Result {
+        let number = self.fault.number();
+        let reason = self.reason();
+        match (self.fault.index(), self.turn) {
+            (Some(i), _) => write!(f, "refused {number} at byte {i}: {reason}"),
+            (None, Some(k)) => write!(f, "refused {number} at turn {k}: {reason}"),
+            (None, None) => write!(f, "refused {number}: {reason}"),
+        }
     }
-    Ok(text)
 }

@@ -1,4 +1,4 @@
-use Rattle.std.proofs.Common.{◌≡◌, ℕ, zero, suc, ◌-◌, ◌<◌, ◌≤◌, min, Bool, true, false, T, eqb, List, length, sym, refl, ap, ◌∙◌, subst, ⊎_elim, arith}
+use Rattle.std.proofs.Common.{◌≡◌, ℕ, zero, suc, ◌-◌, ◌<◌, ◌≤◌, min, Bool, true, false, IsTrue, eqb, List, length, sym, refl, ap, ◌∙◌, subst, ⊎_elim, arith}
 use Rattle.std.proofs.lemmas.Bool.{cases_eq, cases_lt, cond-true, cond-false, eqb-true, eq-eqb, ne_eqb}
 use Rattle.std.proofs.lemmas.List.{get_or_past, ext_get_or}
 use Rattle.std.proofs.lemmas.List.FromFn.{length-map-range_with_len, get_or-map-range_with_len}
@@ -114,6 +114,6 @@ pub inverts : {A : Type 0} (f : TrayForm A) → Regular f → Inverts f
 inverts f reg n xs most t = inverse_at f reg n xs (from_test f reg n xs t) most
 
 -- the inverse keeps the test
-pub inverse_kept : {A : Type 0} (f : TrayForm A) → Regular f → (n : ℕ) (xs ys : List A) → n ≤ 32 → T (permutation f n xs) → ys ≡ inverse f (min n 32) xs → T (permutation f n ys)
+pub inverse_kept : {A : Type 0} (f : TrayForm A) → Regular f → (n : ℕ) (xs ys : List A) → n ≤ 32 → IsTrue (permutation f n xs) → ys ≡ inverse f (min n 32) xs → IsTrue (permutation f n ys)
 inverse_kept f reg n xs ys most t e =
     to_test f reg n ys (subst (Permutation f n) (sym (inverse_fits f reg n xs ys most e)) (inverse_permutation f reg n xs (from_test f reg n xs t) most))

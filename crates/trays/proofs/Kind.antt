@@ -1,4 +1,4 @@
-use Rattle.std.proofs.Common.{◌≡◌, ℕ, ◌≤◌, min, List, map, Decides, sym, ap, ◌∙◌, subst}
+use Rattle.std.proofs.Common.{◌≡◌, ℕ, ◌≤◌, List, map, Decides, sym, ap, ◌∙◌, subst}
 use Rattle.std.proofs.lemmas.Bool.Decides.{Decides-like, same_from_decides}
 use Rattle.machine.specs.Duals.{Duals, IsDual}
 use Rattle.machine.specs.Meaning.{Meaning, Lawful}
@@ -6,7 +6,7 @@ use Rattle.machine.proofs.Relabelling.{Relabelling, is_dual, relabelling_duals}
 use Rattle.trays.specs.Form.{TrayForm, Regular}
 use Rattle.trays.specs.Permutation.{inverse}
 use Rattle.trays.proofs.Exchange.{Move, Exchange, Moved, moved_back}
-use Rattle.trays.proofs.Inverting.{inverse_fits, inverse_permutation, inverse_twice, ordered_inverse}
+use Rattle.trays.proofs.Inverting.{inverse_permutation, inverse_twice, ordered_inverse}
 use Rattle.trays.proofs.Permuting.{Permutation, Ordered}
 use Rattle.trays.proofs.Relabelled.{relabelled, relabelled_permutation, inverse_moved, ordered_moved, ordered_relabelled, moved_relabelled}
 
@@ -146,7 +146,7 @@ module _ {A B S : Type 0} (f : TrayForm A) (reg : Regular f) (m : Meaning S) (mi
   kind_duals = relabelling_duals m kind_lawful mirror kind_relabelling
 
   -- a machine of the same base with the inverse trays is the dual
-  pub kind_dual : (s t : S) → base t ≡ base s → k.trays t ≡ inverse f (min (n s) 32) (k.trays s) → IsDual m mirror s t
+  pub kind_dual : (s t : S) → base t ≡ base s → k.trays t ≡ inverse f (n s) (k.trays s) → IsDual m mirror s t
   kind_dual s t b e =
       is_dual m mirror kind_duals s t
-      (k.same t (mirror s) (b ∙ sym (k.mirror_base s)) (inverse_fits f reg (n s) (k.trays s) (k.trays t) (k.most s) e ∙ sym (k.mirror_trays s)))
+      (k.same t (mirror s) (b ∙ sym (k.mirror_base s)) (e ∙ sym (k.mirror_trays s)))

@@ -1,10 +1,10 @@
 pub mod Answering
 pub mod Bit
 pub mod Exchange
-pub mod Filling
 pub mod Inverting
 pub mod Kind
 pub mod Laying
+pub mod Making
 pub mod Marking
 pub mod Permuting
 pub mod Places

@@ -1,37 +1,42 @@
-use Rattle.std.proofs.Common.{◌≡◌, ℕ, zero, suc, ◌+◌, ◌-◌, ◌*◌, ◌%◌, ◌^◌, ◌<◌, ◌≤◌, sym, refl, ap, ◌∙◌, subst, ⊎_elim, add-one, arith}
+use Rattle.std.proofs.Common.{◌≡◌, ℕ, zero, suc, ◌+◌, ◌-◌, ◌*◌, ◌%◌, ◌^◌, ◌<◌, ◌≤◌, ◌↔◌, IsTrue, nat_eq, List, length, take, get_or, sym, refl, ap, ◌∙◌, subst, ⊎_elim, below_more, add-one, arith}
 use lib.Bits.{bit_and, bit_or, or_lt}
 use lib.Count.{ones}
+use Rattle.std.specs.Int.{bit_at}
+use Rattle.std.proofs.lemmas.Nat.Bits.{bit_at_or, bit_at-lt, bit_at-zero, bit_at-pow_same, bit_at-pow_other}
 use Rattle.std.proofs.lemmas.Nat.{one_shl, pow_pos, pow_below}
-use Rattle.std.proofs.lemmas.Bool.{cases_eq}
+use Rattle.std.proofs.lemmas.Bool.{cases_eq, eqb-true, eq-eqb}
+use Rattle.std.proofs.lemmas.List.{length-take-le}
+use Rattle.trays.specs.Form.{TrayForm, number_at}
 use Rattle.trays.specs.Marks.{marks, MarksCount}
-use Rattle.trays.specs.Setting.{Each, New, Numbered}
-use Rattle.trays.proofs.Bit.{bit, bit-bit_or, bit_below, bit_zero, bit_same, bit_other, ones_or, and_mark, full}
+use Rattle.trays.specs.Setting.{Each, First, New, Numbered}
+use Rattle.trays.proofs.Places.{taken}
+use Rattle.trays.proofs.Bit.{ones_or, and_mark, full}
 
 -- a number among the first i has its mark,
-marked : (f : ℕ → ℕ) (i k : ℕ) → k < i → bit (f k - 1) (marks f i) ≡ 1
+marked : (f : ℕ → ℕ) (i k : ℕ) → k < i → bit_at (marks f i) (f k - 1) ≡ 1
 unfolding marks
 marked f zero k lt = absurd (omega arith)
 marked f (suc i) k lt =
     let v = f k - 1 in
-    let b = bit-bit_or v (marks f i) (2 ^ (f i - 1)) in
-    let x = bit_below v (marks f i) in
-    let y = bit_below v (2 ^ (f i - 1)) in
+    let b = bit_at_or (marks f i) (2 ^ (f i - 1)) v in
+    let x = bit_at-lt (marks f i) v in
+    let y = bit_at-lt (2 ^ (f i - 1)) v in
     ⊎_elim
-    (λ (e : k ≡ i). let z : bit v (2 ^ (f i - 1)) ≡ 1 = subst (λ (j : ℕ). bit v (2 ^ (f j - 1)) ≡ 1) e (bit_same v) in omega arith)
+    (λ (e : k ≡ i). let z : bit_at (2 ^ (f i - 1)) v ≡ 1 = subst (λ (j : ℕ). bit_at (2 ^ (f j - 1)) v ≡ 1) e (bit_at-pow_same v) in omega arith)
     (λ (ne : k ≡ i → ⊥). let z = marked f i k (omega arith) in omega arith)
     (cases_eq k i)
 
 -- and a mark has its number
-marked_by : (f : ℕ → ℕ) (i v : ℕ) → bit v (marks f i) ≡ 1 → (k : ℕ) × (k < i) × (f k - 1 ≡ v)
+marked_by : (f : ℕ → ℕ) (i v : ℕ) → bit_at (marks f i) v ≡ 1 → (k : ℕ) × (k < i) × (f k - 1 ≡ v)
 unfolding marks
-marked_by f zero v e = let z = bit_zero v in absurd (omega arith)
+marked_by f zero v e = let z = bit_at-zero v in absurd (omega arith)
 marked_by f (suc i) v e =
-    let b = bit-bit_or v (marks f i) (2 ^ (f i - 1)) in
+    let b = bit_at_or (marks f i) (2 ^ (f i - 1)) v in
     ⊎_elim
     (λ (here : v ≡ f i - 1). (i, omega arith, omega arith))
     (λ (ne : v ≡ f i - 1 → ⊥).
-    let z = bit_other v (f i - 1) ne in
-    let was : bit v (marks f i) ≡ 1 = omega arith in
+    let z = bit_at-pow_other (f i - 1) v ne in
+    let was : bit_at (marks f i) v ≡ 1 = omega arith in
     let ih = marked_by f i v was in
     (ih.0, (let lt = ih.1 in omega arith), ih.2))
     (cases_eq v (f i - 1))
@@ -52,14 +57,14 @@ count_apart f zero h = ones_zero
 count_apart f (suc i) h =
     let a = ones_or (f i - 1) (marks f i) in
     let ih = count_apart f i (λ j k lt l e. h j k lt (omega arith) e) in
-    let below = bit_below (f i - 1) (marks f i) in
-    let z : bit (f i - 1) (marks f i) ≡ 0 =
-    ⊎_elim (λ (e : bit (f i - 1) (marks f i) ≡ 0). e)
-    (λ (ne : bit (f i - 1) (marks f i) ≡ 0 → ⊥).
-    let s : bit (f i - 1) (marks f i) ≡ 1 = omega arith in
+    let below = bit_at-lt (marks f i) (f i - 1) in
+    let z : bit_at (marks f i) (f i - 1) ≡ 0 =
+    ⊎_elim (λ (e : bit_at (marks f i) (f i - 1) ≡ 0). e)
+    (λ (ne : bit_at (marks f i) (f i - 1) ≡ 0 → ⊥).
+    let s : bit_at (marks f i) (f i - 1) ≡ 1 = omega arith in
     let m = marked_by f i (f i - 1) s in
     absurd (h i m.0 m.1 (omega arith) m.2))
-    (cases_eq (bit (f i - 1) (marks f i)) 0) in
+    (cases_eq (bit_at (marks f i) (f i - 1)) 0) in
     omega arith
 
 -- and only there
@@ -72,28 +77,13 @@ apart_count f (suc i) e j k lt l same =
     let was : ones (marks f i) ≡ i = omega arith in
     ⊎_elim
     (λ (here : j ≡ i).
-    let m : bit (f k - 1) (marks f i) ≡ 1 = marked f i k (omega arith) in
+    let m : bit_at (marks f i) (f k - 1) ≡ 1 = marked f i k (omega arith) in
     let at : f j ≡ f i = ap (λ (x : ℕ). f x) here in
     let to : f k - 1 ≡ f i - 1 = omega arith in
-    let m' : bit (f i - 1) (marks f i) ≡ 1 = subst (λ (x : ℕ). bit x (marks f i) ≡ 1) to m in
+    let m' : bit_at (marks f i) (f i - 1) ≡ 1 = subst (λ (x : ℕ). bit_at (marks f i) x ≡ 1) to m in
     omega arith)
     (λ (ne : j ≡ i → ⊥). apart_count f i was j k lt (omega arith) same)
     (cases_eq j i)
-
--- ---- the marks as the program sets, tests and counts them
-
-pub marks_none : (f : ℕ → ℕ) → 0 ≡ marks f 0
-unfolding marks
-marks_none f = refl
-
--- a number's mark, made by a shift
-mark_is : (v : ℕ) → v ≤ 32 → (1 * 2 ^ (v - 1)) % 4294967296 ≡ 2 ^ (v - 1)
-mark_is v le = one_shl (v - 1) 32 (omega arith)
-
-pub marks_more : (f : ℕ → ℕ) (i m v : ℕ) → v ≡ f i → v ≤ 32 → m ≡ marks f i → bit_or m ((1 * 2 ^ (v - 1)) % 4294967296) ≡ marks f (i + 1)
-unfolding marks
-marks_more f i m v is high e =
-    ap (λ x. bit_or x ((1 * 2 ^ (v - 1)) % 4294967296)) e ∙ ap (bit_or (marks f i)) (mark_is v high ∙ ap (λ (x : ℕ). 2 ^ (x - 1)) is) ∙ ap (marks f) (sym (add-one i))
 
 -- numbers from 1 to n: there are n marks exactly where no number stands twice
 pub marks_count : MarksCount
@@ -106,39 +96,76 @@ marks_count n f good =
           new j (omega arith) jn k kj (omega arith)),
     )
 
--- place i has a number seen before exactly where its mark is set
-module _ (n i m v : ℕ) (f : ℕ → ℕ) (is : v ≡ f i) (good : Each (Numbered n f) 0 n) (few : n ≤ 32) (lt : i < n) (set : m ≡ marks f i) where
-  abbrev mark : ℕ
-  mark = (1 * 2 ^ (v - 1)) % 4294967296
+-- ---- the marks as the program sets, tests and counts them
 
-  small : v ≤ 32
-  small = let a = good i (omega arith) lt in omega arith
+pub marks_none : (f : ℕ → ℕ) → 0 ≡ marks f 0
+unfolding marks
+marks_none f = refl
 
-  test : bit_and m mark ≡ bit_and (marks f i) (2 ^ (f i - 1))
-  test = ap (bit_and m) (mark_is v small ∙ ap (λ (x : ℕ). 2 ^ (x - 1)) is) ∙ ap (λ (x : ℕ). bit_and x (2 ^ (f i - 1))) set
+-- The first n of 32 trays, whose numbers are from 1 to n.
+module _ {A : Type 0} (form : TrayForm A) (n : ℕ) (xs : List A) (long : length xs ≡ 32) (few : n ≤ 32) (good : Each (Numbered n (number_at form xs)) 0 n) where
+  abbrev f : ℕ → ℕ
+  f = number_at form xs
 
-  pub seen_before : (bit_and m mark ≡ 0 → ⊥) → New f i → ⊥
-  seen_before ne new =
-      let w = f i - 1 in
-      let low = bit_below w (marks f i) in
-      let off : bit w (marks f i) ≡ 0 → ⊥ = λ e. ne (test ∙ (and_mark w (marks f i)).1 e) in
-      let on : bit w (marks f i) ≡ 1 = ⊎_elim (λ (e : bit w (marks f i) ≡ 0). absurd (off e)) (λ (o : bit w (marks f i) ≡ 0 → ⊥). omega arith) (cases_eq (bit w (marks f i)) 0) in
-      let at = marked_by f i w on in
-      let k = at.0 in
-      let ki = at.1 in
-      let a = good i (omega arith) lt in
-      let b = good k (omega arith) (omega arith) in
-      let same = at.2 in
-      new k ki (omega arith)
+  -- m is their marks, counted after the last
+  pub distinct_counted : (i m : ℕ) → i ≤ length (take n xs) → length (take n xs) ≤ i → m ≡ marks f i → IsTrue (nat_eq (ones m) n) ↔ Each (New f) 0 n
+  distinct_counted i m le ge set =
+      let short = length-take-le n xs (omega arith) in
+      let same : i ≡ n = omega arith in
+      let all : m ≡ marks f n = set ∙ ap (marks f) same in
+      let law = marks_count n f good in
+      (λ t. law.0 (ap ones (sym all) ∙ eqb-true (ones m) n t), λ new. eq-eqb (ones m) n (ap ones all ∙ law.1 new))
 
-  pub not_before : bit_and m mark ≡ 0 → New f i
-  not_before e k ki same =
-      let off = (and_mark (f i - 1) (marks f i)).0 (sym test ∙ e) in
-      let on = ap (λ (x : ℕ). bit (x - 1) (marks f i)) (sym same) ∙ marked f i k ki in
-      omega arith
+  -- a turn: t stands at place i, v is its number, and m is the marks of those before
+  module _ (i m v : ℕ) (t : A) (turn : i < length (take n xs)) (item : t ≡ get_or (take n xs) i t) (number : v ≡ form.number t) (set : m ≡ marks f i) where
+    abbrev mark : ℕ
+    mark = (1 * 2 ^ (v - 1)) % 4294967296
 
-  pub marks_next : bit_or m mark ≡ marks f (i + 1)
-  marks_next = marks_more f i m v is small set
+    here : (i < n) × (v ≡ f i)
+    here = let at = taken form n xs i t turn (omega arith) item in (at.0, number ∙ ap form.number at.1)
+
+    -- its mark, made by a shift
+    mark_is : mark ≡ 2 ^ (f i - 1)
+    mark_is = let a = good i (omega arith) here.0 in let is = here.1 in one_shl (v - 1) 32 (omega arith) ∙ ap (λ (x : ℕ). 2 ^ (x - 1)) is
+
+    pub marks_next : bit_or m mark ≡ marks f (i + 1)
+    unfolding marks
+    marks_next = ap (λ x. bit_or x mark) set ∙ ap (bit_or (marks f i)) mark_is ∙ ap (marks f) (sym (add-one i))
+
+    test : bit_and m mark ≡ bit_and (marks f i) (2 ^ (f i - 1))
+    test = ap (bit_and m) mark_is ∙ ap (λ (x : ℕ). bit_and x (2 ^ (f i - 1))) set
+
+    -- the mark is set: the number stands at an earlier place too
+    pub repeated_at : Each (New f) 0 i → (bit_and m mark ≡ 0 → ⊥) → First (New f) 0 n i
+    repeated_at before ne = record {
+      from = omega arith;
+      to = here.0;
+      fails = λ new.
+          let w = f i - 1 in
+          let low = bit_at-lt (marks f i) w in
+          let off : bit_at (marks f i) w ≡ 0 → ⊥ = λ e. ne (test ∙ (and_mark w (marks f i)).1 e) in
+          let on : bit_at (marks f i) w ≡ 1 = ⊎_elim (λ (e : bit_at (marks f i) w ≡ 0). absurd (off e)) (λ (o : bit_at (marks f i) w ≡ 0 → ⊥). omega arith) (cases_eq (bit_at (marks f i) w) 0) in
+          let at = marked_by f i w on in
+          let k = at.0 in
+          let ki = at.1 in
+          let lt = here.0 in
+          let a = good i (omega arith) lt in
+          let b = good k (omega arith) (omega arith) in
+          let same = at.2 in
+          new k ki (omega arith);
+      before = before;
+    }
+
+    -- the mark is not set
+    pub new_next : Each (New f) 0 i → bit_and m mark ≡ 0 → Each (New f) 0 (i + 1)
+    new_next before e =
+        λ j _ lt. below_more (New f) i (λ k ki. before k (omega arith) ki) (λ k ki same.
+        let off = (and_mark (f i - 1) (marks f i)).0 (sym test ∙ e) in
+        let on = ap (λ (x : ℕ). bit_at (marks f i) (x - 1)) (sym same) ∙ marked f i k ki in
+        omega arith) j lt
+
+-- what a function that sets the marks stands on
+pub ruleset marking = (marks_none, marks_next, marks_count, distinct_counted, repeated_at, new_next)
 
 -- n different numbers from 1 to n are all of them
 marks_below : (f : ℕ → ℕ) (n i : ℕ) → ((k : ℕ) → k < i → f k - 1 < n) → marks f i < 2 ^ n

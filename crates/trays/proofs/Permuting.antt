@@ -1,6 +1,6 @@
-use Rattle.std.proofs.Common.{◌≡◌, ℕ, suc, ◌+◌, ◌-◌, ◌<◌, ◌≤◌, Bool, true, false, not, T, eqb, leb, List, length, take, Decides, sym, refl, ◌∙◌, subst, ⊎_elim, arith}
-use Rattle.std.proofs.lemmas.Bool.Decides.{Decides-eqb, Decides-and, Decides-like, Decides-not, Decides-below_and, Decides-below_or}
-use Rattle.std.proofs.lemmas.Bool.{cases_Bool, cases_lt, cases_order, leb-true, le-leb}
+use Rattle.std.proofs.Common.{◌≡◌, ℕ, suc, ◌+◌, ◌-◌, ◌<◌, ◌≤◌, Bool, MatchBool, true, false, not, eqb, leb, List, length, take, Decides, IsTrue, sym, refl, ◌∙◌, subst, ⊎_elim, arith}
+use Rattle.std.proofs.lemmas.Bool.Decides.{same_from_decides, Decides-eqb, Decides-and, Decides-like, Decides-not, Decides-below_and, Decides-below_or}
+use Rattle.std.proofs.lemmas.Bool.{cases_lt, cases_order, leb-true, le-leb, true≢false}
 use Rattle.std.proofs.lemmas.List.{get_or_past, get_or-take, length-take-le}
 use Rattle.trays.specs.Form.{TrayForm, Regular, number_at, tray_at}
 use Rattle.trays.specs.Setting.{Accepted, Blank, New, Numbered}
@@ -13,7 +13,7 @@ pub record Permutation {A : Type 0} (f : TrayForm A) (n : ℕ) (xs : List A) : T
   pub apart : (i j : ℕ) → i < n → j < n → number_at f xs i ≡ number_at f xs j → i ≡ j
   pub blank : (i : ℕ) → n ≤ i → Blank f xs i
 
-pub every_decides : (n : ℕ) (p : ℕ → Bool) (P : ℕ → Type 0) → ((k : ℕ) → Decides (p k) (P k)) → Decides (every n p) ((k : ℕ) → k < n → P k)
+every_decides : (n : ℕ) (p : ℕ → Bool) (P : ℕ → Type 0) → ((k : ℕ) → Decides (p k) (P k)) → Decides (every n p) ((k : ℕ) → k < n → P k)
 unfolding every
 every_decides n p P each = Decides-below_and p P (λ k. every k p) each refl (λ _. refl) n
 
@@ -23,13 +23,6 @@ some_decides n p P each = Decides-below_or p P (λ k. some k p) each refl (λ _.
 
 decides_leb : (a b : ℕ) → Decides (leb a b) (a ≤ b)
 decides_leb a b = (leb-true a b, le-leb a b)
-
-truth : (b : Bool) → T b → b ≡ true
-truth true t = refl
-truth false t = absurd t
-
-untruth : (b : Bool) → b ≡ true → T b
-untruth b e = subst T (sym e) tt
 
 abbrev Repeats : (ℕ → ℕ) → ℕ → Type 0
 Repeats f i = (k : ℕ) × (k < i) × (f k ≡ f i)
@@ -59,9 +52,9 @@ module _ {A : Type 0} (f : TrayForm A) (reg : Regular f) where
       (Decides-and _ _ (every_decides n (λ i. not (repeats (number_at f xs) i)) (λ i. Repeats (number_at f xs) i → ⊥) (λ i. Decides-not (repeats (number_at f xs) i) (repeats_decides (number_at f xs) i)))
       (every_decides (32 - n) (λ i. f.stands 0 (tray_at f xs (n + i))) (λ i. Blank f xs (n + i)) (λ i. reg.stands-upright 0 (tray_at f xs (n + i))))))
 
-  pub from_test : (n : ℕ) (xs : List A) → T (permutation f n xs) → Permutation f n xs
+  pub from_test : (n : ℕ) (xs : List A) → IsTrue (permutation f n xs) → Permutation f n xs
   from_test n xs t =
-      let h = (permutation_decides n xs).0 (truth (permutation f n xs) t) in
+      let h = (permutation_decides n xs).0 t in
       record {
         long = h.0;
         ranged = h.1.0;
@@ -73,9 +66,9 @@ module _ {A : Type 0} (f : TrayForm A) (reg : Regular f) where
             (cases_lt i 32);
       }
 
-  pub to_test : (n : ℕ) (xs : List A) → Permutation f n xs → T (permutation f n xs)
+  pub to_test : (n : ℕ) (xs : List A) → Permutation f n xs → IsTrue (permutation f n xs)
   to_test n xs s =
-      untruth (permutation f n xs) ((permutation_decides n xs).1 (
+      (permutation_decides n xs).1 (
         s.long,
         (
           s.ranged,
@@ -84,10 +77,10 @@ module _ {A : Type 0} (f : TrayForm A) (reg : Regular f) where
             (λ i li. s.blank (n + i) (omega arith)),
           ),
         ),
-      ))
+      )
 
   -- trays that are accepted are a permutation
-  pub from_accepted : (least n : ℕ) (xs : List A) → length xs ≡ 32 → Accepted f least n xs → T (permutation f n xs)
+  pub from_accepted : (least n : ℕ) (xs : List A) → length xs ≡ 32 → Accepted f least n xs → IsTrue (permutation f n xs)
   from_accepted least n xs long h =
       to_test n xs (record {
         long = long;
@@ -100,7 +93,7 @@ module _ {A : Type 0} (f : TrayForm A) (reg : Regular f) where
   abbrev pub Ordered : ℕ → List A → Type 0
   Ordered n xs = (i : ℕ) → i < n → tray_at f xs i ≡ f.upright (suc i)
 
-  pub in_order_decides : (xs : List A) → Decides (in_order f xs) (Ordered (length xs) xs)
+  in_order_decides : (xs : List A) → Decides (in_order f xs) (Ordered (length xs) xs)
   unfolding in_order
   in_order_decides xs = every_decides (length xs) (λ i. f.stands (suc i) (tray_at f xs i)) (λ i. tray_at f xs i ≡ f.upright (suc i)) (λ i. reg.stands-upright (suc i) (tray_at f xs i))
 
@@ -112,9 +105,12 @@ module _ {A : Type 0} (f : TrayForm A) (reg : Regular f) where
       (λ h i lt. get_or-take n xs i (f.upright 0) (omega arith) ∙ h i (omega arith))
       (in_order_decides (take n xs))
 
-  pub not_in_order : (xs : List A) (i : ℕ) → i < length xs → f.stands (suc i) (tray_at f xs i) ≡ false → false ≡ in_order f xs
-  not_in_order xs i lt off =
-      ⊎_elim
-      (λ (t : in_order f xs ≡ true). sym off ∙ (reg.stands-upright (suc i) (tray_at f xs i)).1 ((in_order_decides xs).0 t i lt) ∙ sym t)
-      (λ (n : in_order f xs ≡ false). sym n)
-      (cases_Bool (in_order f xs))
+  -- the answer of a test of each place
+  pub in_order_is : (xs : List A) (r : Bool) → MatchBool r ((k : ℕ) → k < length xs → f.stands (suc k) (tray_at f xs k) ≡ true) ((k : ℕ) × (k < length xs) × (f.stands (suc k) (tray_at f xs k) ≡ false)) → r ≡ in_order f xs
+  in_order_is xs r h =
+      same_from_decides r (in_order f xs)
+      (elim r as (λ b. MatchBool b ((k : ℕ) → k < length xs → f.stands (suc k) (tray_at f xs k) ≡ true) ((k : ℕ) × (k < length xs) × (f.stands (suc k) (tray_at f xs k) ≡ false)) → Decides b (Ordered (length xs) xs)) [
+        | true ↦ λ all. (λ _ k lt. (reg.stands-upright (suc k) (tray_at f xs k)).0 (all k lt), λ _. refl)
+        | false ↦ λ one. (λ e. absurd (true≢false (sym e)), λ all. sym one.2 ∙ (reg.stands-upright (suc one.0) (tray_at f xs one.0)).1 (all one.0 one.1))
+      ] h)
+      (in_order_decides xs)

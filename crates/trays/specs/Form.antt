@@ -1,4 +1,4 @@
-use Rattle.std.specs.Prelude.{◌≡◌, ℕ, ◌<◌, Bool, false, List, Decides, ◌==◌, slice_index_or, refl}
+use Rattle.std.specs.Prelude.{◌≡◌, ℕ, ◌<◌, Bool, false, ◌↔◌, IsTrue, List, ◌==◌, slice_index_or, refl}
 use Rattle.std.proofs.lemmas.Bool.Decides.{Decides-eqb}
 
 -- What a type of trays means. A tray has a number, and in some kinds a side; number 0 stands for no tray.
@@ -21,7 +21,7 @@ pub record Regular {A : Type 0} (f : TrayForm A) : Type 0 where
   pub number-upright : (v : ℕ) → f.number (f.upright v) ≡ v
   pub number-renumbered : (v : ℕ) (t : A) → f.number (f.renumbered v t) ≡ v
   pub number-sided : (b : Bool) (t : A) → f.number (f.sided b t) ≡ f.number t
-  pub stands-upright : (v : ℕ) (t : A) → Decides (f.stands v t) (t ≡ f.upright v)
+  pub stands-upright : (v : ℕ) (t : A) → IsTrue (f.stands v t) ↔ (t ≡ f.upright v)
   pub renumbered_same : (t : A) → f.renumbered (f.number t) t ≡ t
   pub renumbered_again : (v w : ℕ) (t : A) → f.renumbered v (f.renumbered w t) ≡ f.renumbered v t
   pub renumbered-upright : (v w : ℕ) → f.renumbered v (f.upright w) ≡ f.upright v

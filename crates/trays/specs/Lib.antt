@@ -1,3 +1,4 @@
+pub mod Arranged
 pub mod AtHome
 pub mod Form
 pub mod Reading

@@ -1,4 +1,4 @@
-use Rattle.std.specs.Prelude.{◌≡◌, ℕ, zero, suc, ◌-◌, ◌^◌, bit_or, count_ones}
+use Rattle.std.specs.Prelude.{◌≡◌, ℕ, zero, suc, ◌-◌, ◌^◌, ◌↔◌, bit_or, count_ones}
 use Rattle.trays.specs.Setting.{Each, New, Numbered}
 
 -- The marks of the first i of the numbers f: number v sets the binary digit v - 1.
@@ -8,4 +8,4 @@ marks f (suc i) = bit_or (marks f i) (2 ^ (f i - 1))
 
 -- Of n numbers from 1 to n, none stands twice exactly where n marks are set.
 abbrev pub MarksCount : Type 0
-MarksCount = (n : ℕ) (f : ℕ → ℕ) → Each (Numbered n f) 0 n → (count_ones (marks f n) ≡ n → Each (New f) 0 n) × (Each (New f) 0 n → count_ones (marks f n) ≡ n)
+MarksCount = (n : ℕ) (f : ℕ → ℕ) → Each (Numbered n f) 0 n → (count_ones (marks f n) ≡ n) ↔ Each (New f) 0 n

@@ -1,4 +1,4 @@
-use Rattle.std.specs.Prelude.{◌≡◌, ℕ, zero, suc, ◌+◌, ◌-◌, ◌<◌, ◌≤◌, Bool, true, false, cond, not, ◌&&◌, ◌||◌, T, List, map, length, ◌==◌, nat_eq, nat_le}
+use Rattle.std.specs.Prelude.{◌≡◌, ℕ, zero, suc, ◌+◌, ◌-◌, ◌<◌, ◌≤◌, Bool, true, false, if◌then◌else◌, IsTrue, not, ◌&&◌, ◌||◌, List, map, length, ◌==◌, nat_eq, nat_le}
 use Rattle.std.specs.List.{range_with_len}
 use Rattle.trays.specs.Form.{TrayForm, number_at, tray_at}
 
@@ -15,7 +15,7 @@ some (suc n) p = p n || some n p
 -- one more than the last number below n that has p, or 0
 unfoldable pub last : ℕ → (ℕ → Bool) → ℕ
 last zero p = 0
-last (suc n) p = cond (p n) (suc n) (last n p)
+last (suc n) p = if p n then suc n else last n p
 
 -- x is a number from 1 to n
 abbrev pub numbered : ℕ → ℕ → Bool
@@ -46,4 +46,4 @@ inverse f n xs = map (λ j. answering f xs (last n (λ i. nat_eq (number_at f xs
 
 -- Of a permutation: where place i holds tray j + 1, place j of the inverse holds tray i + 1, on the same side. Places count from 0.
 abbrev pub Inverts : {A : Type 0} → TrayForm A → Type 0
-Inverts {A} f = (n : ℕ) (xs : List A) → n ≤ 32 → T (permutation f n xs) → (i j : ℕ) → i < n → number_at f xs i ≡ suc j → tray_at f (inverse f n xs) j ≡ f.renumbered (suc i) (tray_at f xs i)
+Inverts {A} f = (n : ℕ) (xs : List A) → n ≤ 32 → IsTrue (permutation f n xs) → (i j : ℕ) → i < n → number_at f xs i ≡ suc j → tray_at f (inverse f n xs) j ≡ f.renumbered (suc i) (tray_at f xs i)

@@ -1,4 +1,4 @@
-use Rattle.std.specs.Prelude.{◌≡◌, ℕ, ◌+◌, ◌-◌, ◌<◌, cond, List, map, ◌≢◌, nat_le, nat_lt}
+use Rattle.std.specs.Prelude.{◌≡◌, ℕ, ◌+◌, ◌-◌, ◌<◌, if◌then◌else◌, List, map, ◌≢◌, nat_le, nat_lt}
 use Rattle.std.specs.List.{range_with_len}
 use Rattle.trays.specs.Form.{TrayForm, tray_at}
 
@@ -6,15 +6,18 @@ use Rattle.trays.specs.Form.{TrayForm, tray_at}
 
 -- the place that lies j steps on from place a, for j below n
 abbrev pub place_on : ℕ → ℕ → ℕ → ℕ
-place_on n a j = cond (nat_lt (a + j) n) (a + j) (a + j - n)
+place_on n a j = if nat_lt (a + j) n then a + j else a + j - n
 
 -- how many steps on from place a place i lies
 abbrev pub steps_to : ℕ → ℕ → ℕ → ℕ
-steps_to n a i = cond (nat_le a i) (i - a) (i + n - a)
+steps_to n a i = if nat_le a i then i - a else i + n - a
 
 -- the place that place i changes with where the run of `span` places from place a on is turned round
 unfoldable pub partner : ℕ → ℕ → ℕ → ℕ → ℕ
-partner n span a i = cond (nat_lt i n) (cond (nat_lt (steps_to n a i) span) (place_on n a (span - 1 - steps_to n a i)) i) i
+partner n span a i =
+    if nat_lt i n
+    then (if nat_lt (steps_to n a i) span then place_on n a (span - 1 - steps_to n a i) else i)
+    else i
 
 -- 32 places of which the first n are a ring, with that run turned round
 unfoldable pub run_turned : {A : Type 0} → TrayForm A → ℕ → ℕ → ℕ → List A → List A

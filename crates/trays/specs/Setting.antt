@@ -1,6 +1,7 @@
-use Rattle.std.specs.Prelude.{◌≡◌, ℕ, ◌<◌, ◌≤◌, List, Some, None, Ok, Err, Option, Result, ◌≢◌}
+use Rattle.std.specs.Prelude.{◌≡◌, ℕ, ◌<◌, ◌≤◌, List, map, Some, None, Ok, Err, Option, Result, ◌≢◌}
 use Rattle.machine.specs.declared.fault.Fault.{Fault}
 use Rattle.machine.specs.declared.fault.Fault.TheVariants.{TrayCount, Span, TrayNumber, TrayRepeated, TrayBeyond, NoSuchTurn}
+use Rattle.trays.specs.declared.settable.Setup.{Setup}
 use Rattle.trays.specs.Form.{TrayForm, number_at, tray_at}
 
 -- The rules for setting a machine of n trays. A place counts from 0.
@@ -68,9 +69,20 @@ pub record Holding (A : Type 0) : Type 0 where
   pub span : Option ℕ
   pub trays : List A
 
--- What setting a machine from n, a span and the trays xs answers and leaves. Accepted: the machine holds them.
+-- What is to be held by a machine that is set so: each byte stands for a tray.
+abbrev pub holding_of : {A S : Type 0} → TrayForm A → (S → Option ℕ) → Setup S → Holding A
+holding_of f spanning setup = record { count = setup.n; span = spanning setup.span; trays = map f.read setup.bytes }
+
+-- Every rule is kept for what is to be held, and this is held.
+pub record Holds {A : Type 0} (f : TrayForm A) (least : ℕ) (want held : Holding A) : Type 0 where
+  pub spanned : Spanned want.count want.span
+  pub accepted : Accepted f least want.count want.trays
+  pub count : held.count ≡ want.count
+  pub span : held.span ≡ want.span
+  pub trays : held.trays ≡ want.trays
+
+-- What setting a machine to hold this answers and leaves. Accepted: the machine holds it.
 -- Refused: why, and the machine is as it was.
-abbrev pub Sets : {M A U : Type 0} → TrayForm A → ℕ → (M → Holding A) → M → ℕ → Option ℕ → List A → Result U Fault → M → Type 0
-Sets f least holding before n span xs (Ok _) after =
-    Spanned n span × Accepted f least n xs × ((holding after).count ≡ n) × ((holding after).span ≡ span) × ((holding after).trays ≡ xs)
-Sets f least holding before n span xs (Err fault) after = Refused f least n span xs fault × (after ≡ before)
+abbrev pub Sets : {M A U : Type 0} → TrayForm A → ℕ → (M → Holding A) → M → Holding A → Result U Fault → M → Type 0
+Sets f least holding before want (Ok _) after = Holds f least want (holding after)
+Sets f least holding before want (Err fault) after = Refused f least want.count want.span want.trays fault × (after ≡ before)

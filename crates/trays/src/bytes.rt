@@ -2,22 +2,14 @@ ghost use Rattle.std.specs.Prelude.{◌≡◌, map};
 ghost use Rattle.trays.specs.Reading.{BlanksRead};
 
 use crate::tray::Tray;
+use std::array;
 
 // The trays that the bytes stand for.
-pub fn read_trays<T: Tray + Copy>(bytes: &[u8; 32]) -> [T; 32]
-    ensures blanks { BlanksRead T.Tray.form }
-    ensures value { result ≡ map T.Tray.form.read bytes.now }
+#[tactic(auto, using(crate::proofs::Reading::blanks_read))]
+pub fn read_trays<T: Tray>(bytes: &[u8; 32]) -> [T; 32]
+    ensures blanks { BlanksRead T.form }
+    ensures value { result ≡ map T.form.read bytes.now }
 {
-    read_each(bytes)
-}
-
-fn read_each<T: Tray + Copy>(bytes: &[u8; 32]) -> [T; 32]
-    ensures blanks { BlanksRead T.Tray.form }
-    ensures value { result ≡ map T.Tray.form.read bytes.now }
-{
-    let mut trays = [T::from_byte(0); 32];
-    for i in 0..32 {
-        trays[i] = T::from_byte(bytes[i]);
-    }
-    trays
+    // `map` of the array asks that an array of its items fits in memory, which nothing says of a generic T.
+    array::from_fn(|i| T::from_byte(bytes[i]))
 }

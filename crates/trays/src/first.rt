@@ -1,22 +1,24 @@
-ghost use Rattle.std.specs.Prelude.{◌≤◌, min, max};
+ghost use Rattle.std.specs.Prelude.{◌≡◌, ◌+◌, if◌then◌else◌, nat_lt, min, max};
 ghost use Rattle.trays.specs.AtHome.{AtHome};
 
 use crate::tray::Tray;
+use std::array;
 
 // The trays 1 to n as they stand at home, and none after them. n below 1 counts as 1, and above 32 as 32.
-pub fn home_trays<T: Tray + Copy>(n: u8) -> [T; 32]
-    ensures { AtHome T.Tray.form (max (min n 32) 1) result }
+pub fn home_trays<T: Tray>(n: u8) -> [T; 32]
+    ensures { AtHome T.form (max (min n 32) 1) result }
 {
-    laid(n.min(32).max(1))
+    let count = n.clamp(1, 32);
+    array::from_fn(|i| home_tray(count, i))
 }
 
-fn laid<T: Tray + Copy>(n: u8) -> [T; 32]
-    requires { (1 ≤ n) × (n ≤ 32) }
-    ensures { AtHome T.Tray.form n result }
+// What place i of n trays holds at home, counted from 0: tray i + 1, and past the n trays none.
+fn home_tray<T: Tray>(n: u8, i: usize) -> T
+    ensures { result ≡ T.form.upright (if nat_lt i n then i + 1 else 0) }
 {
-    let mut trays = [T::upright(0); 32];
-    for i in 0..n {
-        trays[i as usize] = T::upright(i + 1);
+    if i < n as usize {
+        T::upright(i as u8 + 1)
+    } else {
+        T::upright(0)
     }
-    trays
 }

@@ -1,10 +1,31 @@
-ghost use Rattle.std.specs.Prelude.{◌≡◌, ℕ, true, map, Option};
+ghost use Rattle.std.specs.Prelude.{◌≡◌, ℕ, IsTrue, take, Option};
 ghost use Rattle.trays.specs.Form.{TrayForm};
-ghost use Rattle.trays.specs.Setting.{Holding, Sets};
+ghost use Rattle.trays.specs.Setting.{Holding, Sets, holding_of};
 
 use machine::{Fault, Machine};
 
-// A machine that is set from a number of trays, a span where its kind has one, and 32 tray bytes. `form` says what its trays are, and `holding` what it holds.
+// What a machine is set from: the number of trays, a span where its kind has one, and 32 tray bytes. A slice of n bytes would be no plainer: those past n are looked at too.
+#[derive(Clone, Copy, PartialEq, Eq, Debug)]
+pub struct Setup<S> {
+    pub n: u8,
+    pub span: S,
+    pub bytes: [u8; 32],
+}
+
+impl<S> Setup<S> {
+    // The same with this span.
+    pub fn with_span<R>(&self, span: R) -> Setup<R>
+        ensures { result ≡ record { n = self.now.n; span = span; bytes = self.now.bytes } }
+    {
+        Setup {
+            n: self.n,
+            span,
+            bytes: self.bytes,
+        }
+    }
+}
+
+// A machine that can be set. `form` says what its trays are, and `holding` what it holds.
 pub trait Settable: Machine {
     type Tray;
 
@@ -21,9 +42,15 @@ pub trait Settable: Machine {
 
     // The machine of the kind's least number of trays, which is home.
     fn new() -> Self
-        ensures { ((holding result).count ≡ Self.Machine.least) × ((holding result).span ≡ first) × (Self.Machine.meaning.home (Self.Machine.state result) ≡ true) };
+        ensures count { (holding result).count ≡ Self.LEAST }
+        ensures span { (holding result).span ≡ first }
+        ensures home { IsTrue (Self.meaning.home (Self.state result)) };
+
+    // The trays that it holds, from the top or from place 1 on.
+    fn trays(&self) -> &[Self::Tray]
+        ensures { result.now ≡ take (holding self.now).count (holding self.now).trays };
 
     // Makes this the machine of the first n bytes, where the other bytes are 0; or refuses them and changes nothing.
-    fn set(&mut self, n: u8, span: Self::Span, bytes: &[u8; 32]) -> Result<(), Fault>
-        ensures { Sets form Self.Machine.least holding self.old n (spanning span) (map form.read bytes.now) result self.new };
+    fn set(&mut self, setup: &Setup<Self::Span>) -> Result<(), Fault>
+        ensures { Sets form Self.LEAST holding self.old (holding_of form spanning setup.now) result self.new };
 }

@@ -1,15 +1,8 @@
-use Rattle.std.proofs.Common.{length, sym}
-use Rattle.std.proofs.lemmas.List.{nil_from_length}
-use Rattle.std.proofs.lemmas.Bool.{eqb-true}
-use Rattle.task.proofs.Settling.{made_more, replies}
+use Rattle.std.proofs.Common.{rules}
+use Rattle.task.proofs.Settling.{replies_failed}
 use Rattle.task.proofs.performing.reply.Goals as goal
 
-pub returns-then-is_empty : goal.returns-then-is_empty
-returns-then-is_empty c =
-    let ws = c.args.words.now in
-    nil_from_length ws (eqb-true (length ws) 0 (sym c.if-is_empty.ensures))
-
-pub returns-in-Ok : goal.returns-in-Ok
-returns-in-Ok c =
-    let ws = c.args.words.now in
-    made_more c.carry_out.result _ _ (λ o h. replies ws o (h ws c.in-Ok.ensures)) c.carry_out.ensures
+pub returns-in_err-carry_out : goal.returns-in_err-carry_out
+returns-in_err-carry_out c =
+    let failed = replies_failed c.args.words.now c.in_err-carry_out.field-0.0 (c.in_err-carry_out.ensures c.args.words.now c.in_ok-request.ensures) in
+    search rules

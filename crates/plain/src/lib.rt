@@ -1,7 +1,0 @@
-#![tactic(auto)]
-
-mod set;
-mod tower;
-mod turns;
-
-pub use tower::PlainTower;

@@ -1,3 +1,0 @@
-pub mod Sided
-pub mod Tray
-pub mod Laws

@@ -1,0 +1,4 @@
+pub mod Kinds
+pub mod Laws
+pub mod Towers
+pub mod Tray
