@@ -11,6 +11,8 @@ use Rattle.trays.proofs.Permuting.{Permutation, from_test, to_test}
 use Rattle.trays.proofs.Running.{run_move, run_exchange, run_moved}
 use Rattle.ring.specs.declared.kind.TrayRing.{TrayRing}
 
+-- A ring's own struct needs these as a tower's does; one struct for both would be no plainer, since the span and its bounds would be facts by cases of the kind.
+
 pub permuted : (s : TrayRing) → Permutation number_tray s.arrangement.n s.arrangement.trays
 permuted s = from_test number_tray number_regular s.arrangement.n s.arrangement.trays s.arrangement.each_once
 

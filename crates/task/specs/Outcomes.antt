@@ -26,7 +26,7 @@ Bytes trays bytes = (k : ℕ) → k < 32 → slice_index bytes k ≡ slice_index
 abbrev pub in_tower : {A : Type 0} → TrayForm A → ℕ → List ℕ → Holding A
 in_tower f n bytes = record { count = n; span = None; trays = map f.read bytes }
 
--- What a ring is to hold that is set from n, this span and these bytes. No line of a ring has no span.
+-- What a ring is to hold that is set from n, this span and these bytes. Every line of a ring has a span, so the 0 is never taken.
 abbrev pub in_ring : ℕ → Option ℕ → List ℕ → Holding ℕ
 in_ring n span bytes = record { count = n; span = Some (unwrap_or span 0); trays = map number_tray.read bytes }
 

@@ -39,15 +39,10 @@ fn carry_out(heap: Global, request: Request) -> Result<Outcome, Failure>
         task,
         ..
     } = request;
+    let setup = Setup { n, span: (), bytes };
     match kind {
-        Kind::Plain => {
-            let setup = Setup { n, span: (), bytes };
-            attempt(heap, kind, &setup, task).map(Outcome::Plain)
-        }
-        Kind::Sided => {
-            let setup = Setup { n, span: (), bytes };
-            attempt(heap, kind, &setup, task).map(Outcome::Sided)
-        }
+        Kind::Plain => attempt(heap, kind, &setup, task).map(Outcome::Plain),
+        Kind::Sided => attempt(heap, kind, &setup, task).map(Outcome::Sided),
         Kind::Ring => {
             let span = span.unwrap_or(0);
             let setup = Setup { n, span, bytes };

@@ -7,7 +7,7 @@ use crate::request::{Expected, Misread, Request, Task};
 use crate::word::{Kind, Word};
 use std::alloc::{AllocError, Global};
 
-// A line half read: what has been read, and what is expected next. Before the first word the kind says nothing; an `Option` would be no plainer, since every later step would have to open it.
+// A line half read: what has been read, and what is expected next. Before the first word the kind says nothing; an `Option` would be no plainer, since `finish` would have to open it where it is always there.
 #[derive(Drop)]
 pub(crate) struct Reader {
     kind: Kind,

@@ -7,7 +7,7 @@ use crate::word::Kind;
 use std::alloc::AllocError;
 use std::{array, fmt};
 
-// What a line asks for: the kind of machine, its trays from the top, their count and the span where the line gives them, and the task. A span in the case of a ring would be no plainer: it would be a second enum of the kinds.
+// What a line asks for: the kind of machine, its trays in their order, their count and the span where the line gives them, and the task. A span in the case of a ring would be no plainer: it would be a second enum of the kinds.
 #[derive(Drop)]
 pub struct Request {
     pub kind: Kind,

@@ -11,7 +11,7 @@ use reversal::reverse_part;
 use trays::Arrangement;
 
 impl<T: TowerTray> Tower<T> {
-    // The tower with its first k trays turned round and over.
+    // The tower with its first k trays turned round, and over where they have sides.
     fn flipped(&self, k: u8) -> Tower<T>
         requires { k ≤ self.now.arrangement.n }
         ensures { result ≡ turned self.now k }
@@ -34,7 +34,7 @@ impl<T: TowerTray> Tower<T> {
     }
 }
 
-// Changes the side of each tray.
+// Changes the side of each tray, where it has sides.
 fn turn_over<T: TowerTray>(trays: &mut [T])
     ensures { trays.new ≡ map (T.form.sided true) trays.old }
 {

@@ -7,7 +7,7 @@ ghost use Rattle.trays.specs.Setting.{Accepted, Blank, Counted, Each, Found, New
 use crate::tray::Tray;
 use machine::Fault;
 
-// Checks the 32 trays of a machine of n trays: refuses a wrong number of trays, then a wrong span where the kind has one, then numbers that are not 1 to n, each once, then a tray after them.
+// Checks the 32 trays of a machine of n trays: refuses a wrong number of trays, then a wrong span where the kind has one, then numbers that are not 1 to n, each once, then a tray after them. A struct of n and trays that are not checked yet would be no plainer.
 #[tactic(auto, using(crate::proofs::Answering::one_answer))]
 pub fn check_trays<T: Tray>(
     least: u8,
@@ -54,7 +54,7 @@ fn check_span(n: u8, span: Option<u8>) -> Result<(), Fault>
     }
 }
 
-// tried: one struct of n and the trays, with n at most 32, and these four as its methods: the proof did not close that 32 trays of a generic T, in a struct made here, fit in memory.
+// tried: one struct of n and the trays, by reference and by value, with these four as its methods: the proof did not close that what a method borrows, 32 trays of a generic T, fits in memory.
 
 // The first of n places whose number is not from 1 to n.
 fn misnumbered<T: Tray>(n: u8, trays: &[T; 32]) -> Option<usize>
@@ -67,7 +67,7 @@ fn misnumbered<T: Tray>(n: u8, trays: &[T; 32]) -> Option<usize>
         .position(|tray| !(1..=n).contains(&tray.number()))
 }
 
-// The first of n places whose number stands at an earlier place too.
+// The first of n places whose number stands at an earlier place too. The numbers seen are bits of a word: an array of flags would be no plainer, since its trues would have to be counted in `all_distinct`.
 #[tactic(auto, using(crate::proofs::Marking::marking))]
 fn repeated<T: Tray>(n: u8, trays: &[T; 32]) -> Option<usize>
     requires few { n ≤ 32 }
@@ -89,7 +89,7 @@ fn repeated<T: Tray>(n: u8, trays: &[T; 32]) -> Option<usize>
     None
 }
 
-// Whether none of n numbers stands twice: each sets its mark, and n marks are counted. The marks are bits, so that they are counted by one operation.
+// Whether none of n numbers stands twice: each sets its mark, and n marks are counted.
 #[tactic(auto, using(crate::proofs::Marking::marking))]
 fn all_distinct<T: Tray>(n: u8, trays: &[T; 32]) -> bool
     requires few { n ≤ 32 }

@@ -3,7 +3,7 @@ ghost use Rattle.trays.specs.Permutation.{Inverts, inverse};
 
 use crate::tray::Tray;
 
-// The inverse of the first n trays, at most 32: where place i holds tray j, place j holds tray i, on the same side. A number outside 1 to 32 has no place, and of a number that stands twice the last place counts.
+// The inverse of the first n trays, at most 32: where place i holds tray j, place j holds tray i, on the same side. A number outside 1 to 32 has no place, and of a number that stands twice the last place counts. An `Arrangement` would ask for more of the trays than this does.
 #[tactic(auto, using(crate::proofs::Placing::placing))]
 pub fn invert<T: Tray>(n: u8, trays: &[T; 32]) -> [T; 32]
     ensures law { Inverts T.form }
