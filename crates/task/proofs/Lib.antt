@@ -1,1 +1,2 @@
+pub mod Owed
 pub mod Settling

@@ -1,5 +1,6 @@
 use Rattle.std.specs.Prelude.{◌≡◌, ⊤, ℕ, ◌<◌, List, [], map, Some, None, Option, Ok, Err, Result, ◌≢◌, slice_index}
 use Rattle.std.specs.Option.{unwrap_or}
+use Rattle.gaps.specs.Counts.{gaps, breakpoints, half_gaps}
 use Rattle.machine.specs.declared.fault.Fault.{Fault}
 use Rattle.ring.specs.Ring as rings
 use Rattle.towers.specs.Towers as towers
@@ -7,7 +8,7 @@ use Rattle.towers.specs.Tray.{sided_tray}
 use Rattle.text.specs.declared.word.Kind.{Kind}
 use Rattle.text.specs.declared.word.Kind.TheVariants as kind
 use Rattle.text.specs.declared.word.Word.{Word}
-use Rattle.text.specs.Lines.{Stuck, Written}
+use Rattle.text.specs.Lines.{Asked, Stuck, Written}
 use Rattle.text.specs.Stacks.{tray_count}
 use Rattle.text.specs.Words.{Words}
 use Rattle.trays.specs.Form.{TrayForm, number_tray}
@@ -37,10 +38,10 @@ RefusedAs kind.Sided n span bytes fault = Refused sided_tray 1 n None (map sided
 RefusedAs kind.Ring n span bytes fault = Refused number_tray 4 n (Some (unwrap_or span 0)) (map number_tray.read bytes) fault
 
 -- What is done for a machine of this kind, of n trays, with this span and these bytes, and this task.
-abbrev pub Settled : Kind → ℕ → Option ℕ → List ℕ → Option (List ℕ) → Result Outcome Failure → Type 0
-Settled k n span bytes task (Ok (Plain w)) = (k ≡ kind.Plain) × Attempted k number_tray 1 towers.held (towers.tower 2) towers.mirrored (λ s. s) (in_tower number_tray n bytes) task (Ok w)
-Settled k n span bytes task (Ok (Sided w)) = (k ≡ kind.Sided) × Attempted k sided_tray 1 towers.held (towers.tower 1) towers.mirrored (λ s. s) (in_tower sided_tray n bytes) task (Ok w)
-Settled k n span bytes task (Ok (Ring w)) = (k ≡ kind.Ring) × Attempted k number_tray 4 rings.held rings.ring rings.mirrored (λ s. s) (in_ring n span bytes) task (Ok w)
+abbrev pub Settled : Kind → ℕ → Option ℕ → List ℕ → Asked → Result Outcome Failure → Type 0
+Settled k n span bytes task (Ok (Plain w)) = (k ≡ kind.Plain) × Attempted k number_tray 1 towers.held (towers.tower 2) towers.mirrored (λ s. s) gaps (in_tower number_tray n bytes) task (Ok w)
+Settled k n span bytes task (Ok (Sided w)) = (k ≡ kind.Sided) × Attempted k sided_tray 1 towers.held (towers.tower 1) towers.mirrored (λ s. s) breakpoints (in_tower sided_tray n bytes) task (Ok w)
+Settled k n span bytes task (Ok (Ring w)) = (k ≡ kind.Ring) × Attempted k number_tray 4 rings.held rings.ring rings.mirrored (λ s. s) half_gaps (in_ring n span bytes) task (Ok w)
 Settled k n span bytes task (Err (failure.Unexpected at expected)) = ⊥
 Settled k n span bytes task (Err (failure.Refused j fault)) = (j ≡ k) × RefusedAs k n span bytes fault
 Settled k n span bytes task (Err failure.NoMemory) = ⊤
@@ -51,7 +52,7 @@ pub record Requested (ws : List Word) (o : Result Outcome Failure) : Type 0 wher
   pub trays : List ℕ
   pub count : Option ℕ
   pub span : Option ℕ
-  pub task : Option (List ℕ)
+  pub task : Asked
   pub bytes : List ℕ
   pub asked : Written ws kind trays count span task
   pub padded : Bytes trays bytes

@@ -1,11 +1,13 @@
 #![tactic(auto)]
 
+mod estimating;
 mod failure;
 mod outcome;
 mod performing;
 mod working;
 
+pub use estimating::estimates_of;
 pub use failure::Failure;
-pub use outcome::{Done, Outcome, Work};
+pub use outcome::{Done, Estimates, Outcome, Work};
 pub use performing::perform;
 pub use working::work;

@@ -24,4 +24,17 @@ pub enum Done<M> {
     Followed(Vec<u8>, Trace<M>),
     // its dual was asked for
     Mirrored(M),
+    // it was asked how many turns it still needs
+    Estimated(Estimates),
+}
+
+// Estimates of the turns that a machine still needs.
+#[derive(Clone, Copy, PartialEq, Eq, Debug)]
+pub struct Estimates {
+    // the count of its kind
+    pub count: u8,
+    // look-ahead over the count
+    pub look_ahead: u8,
+    // dual lookup over look-ahead
+    pub dual_lookup: u8,
 }

@@ -5,6 +5,7 @@ ghost use Rattle.task.specs.Outcomes.{Answers, Replies, Requested};
 use crate::failure::Failure;
 use crate::outcome::Outcome;
 use crate::working::attempt;
+use gaps::{Breakpoints, Gaps, HalfGaps};
 use std::alloc::Global;
 use text::{Kind, Request, Word, parse, read_words};
 use trays::Setup;
@@ -41,12 +42,12 @@ fn carry_out(heap: Global, request: Request) -> Result<Outcome, Failure>
     } = request;
     let setup = Setup { n, span: (), bytes };
     match kind {
-        Kind::Plain => attempt(heap, kind, &setup, task).map(Outcome::Plain),
-        Kind::Sided => attempt(heap, kind, &setup, task).map(Outcome::Sided),
+        Kind::Plain => attempt(heap, kind, Gaps, &setup, task).map(Outcome::Plain),
+        Kind::Sided => attempt(heap, kind, Breakpoints, &setup, task).map(Outcome::Sided),
         Kind::Ring => {
             let span = span.unwrap_or(0);
             let setup = Setup { n, span, bytes };
-            attempt(heap, kind, &setup, task).map(Outcome::Ring)
+            attempt(heap, kind, HalfGaps, &setup, task).map(Outcome::Ring)
         }
     }
 }

@@ -1,16 +1,34 @@
 use machine::Fault;
+use ring::TrayRing;
 use std::process::Abort;
 use std::test::*;
+use task::Estimates;
 use towers::{Tower, TowerTray};
 use trays::{Settable, Setup};
 
-// What a machine is set from: n, a span and these numbers as tray bytes, with 0 after the last.
-pub(crate) fn setup<S>(n: u8, span: S, numbers: &[u8]) -> Setup<S> {
+// These numbers as tray bytes, with 0 after the last.
+fn tray_bytes<I: Iterator<Item = u8> + Drop>(numbers: I) -> [u8; 32]
+    requires { I.can_next numbers }
+{
     let mut bytes = [0u8; 32];
     for (byte, number) in bytes.iter_mut().zip(numbers) {
-        *byte = *number;
+        *byte = number;
     }
-    Setup { n, span, bytes }
+    bytes
+}
+
+// What a machine is set from: n, a span and these numbers as tray bytes.
+pub(crate) fn setup<S>(n: u8, span: S, numbers: &[u8]) -> Setup<S> {
+    Setup {
+        n,
+        span,
+        bytes: tray_bytes(numbers.iter().copied()),
+    }
+}
+
+// 32 to 1.
+pub(crate) fn falling() -> [u8; 32] {
+    tray_bytes((1..=32).rev())
 }
 
 // A machine set from n, a span and these trays, or the refusal.
@@ -26,6 +44,28 @@ where
 // A tower of n of these trays, or the refusal.
 pub(crate) fn tower<T: TowerTray + Drop>(n: u8, numbers: &[u8]) -> Result<Tower<T>, Fault> {
     machine(n, (), numbers)
+}
+
+// A ring of n trays with this span, or the refusal.
+pub(crate) fn ring(n: u8, span: u8, numbers: &[u8]) -> Result<TrayRing, Fault> {
+    machine(n, span, numbers)
+}
+
+// A machine of n trays in order, or the refusal.
+pub(crate) fn home<M: Settable + Drop>(n: u8, span: M::Span) -> Result<M, Fault>
+where
+    M::Span: Drop,
+{
+    machine(n, span, &tray_bytes(1..=n))
+}
+
+// The estimates with these numbers.
+pub(crate) fn told(count: u8, look_ahead: u8, dual_lookup: u8) -> Estimates {
+    Estimates {
+        count,
+        look_ahead,
+        dual_lookup,
+    }
 }
 
 pub(crate) fn check_refused<M: Settable + Drop>(

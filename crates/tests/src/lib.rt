@@ -5,6 +5,8 @@ mod arrangements;
 #[cfg(test)]
 mod duals;
 #[cfg(test)]
+mod estimates;
+#[cfg(test)]
 mod given;
 #[cfg(test)]
 mod plain;
@@ -16,5 +18,9 @@ mod reversals;
 mod rings;
 #[cfg(test)]
 mod sides;
+#[cfg(test)]
+mod sweeps;
+#[cfg(test)]
+mod swing;
 #[cfg(test)]
 mod texts;

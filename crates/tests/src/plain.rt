@@ -1,17 +1,8 @@
-use crate::given::{check_refused, setup, tower};
+use crate::given::{check_refused, falling, setup, tower};
 use machine::{Ending, Fault, Machine, TurnRange, follow};
 use std::test::*;
 use towers::PlainTower;
 use trays::Settable;
-
-// 32 to 1.
-fn falling() -> [u8; 32] {
-    let mut numbers = [0u8; 32];
-    for (place, number) in numbers.iter_mut().zip((1..=32u8).rev()) {
-        *place = number;
-    }
-    numbers
-}
 
 #[test]
 fn one_tray(rt: HostRuntime) -> Result<(), Fail> {

@@ -1,14 +1,9 @@
-use crate::given::{check_refused, machine, setup};
+use crate::given::{check_refused, ring, setup};
 use machine::{Fault, Machine, TurnRange};
 use ring::TrayRing;
 use std::process::Abort;
 use std::test::*;
 use trays::Settable;
-
-// A ring of n trays with this span, or the refusal.
-fn ring(n: u8, span: u8, numbers: &[u8]) -> Result<TrayRing, Fault> {
-    machine(n, span, numbers)
-}
 
 // The trays after turn p.
 fn check_turn(rt: &impl Abort, span: u8, p: u8, before: &[u8], after: &[u8]) -> Result<(), Fail> {

@@ -1,7 +1,8 @@
+use crate::given::told;
 use machine::{Ending, Fault};
 use std::process::Abort;
 use std::test::*;
-use task::{Done, Failure, Outcome, perform};
+use task::{Done, Estimates, Failure, Outcome, perform};
 use text::{Expected, Kind, Misread, Request, Task, Word, parse, read_words};
 use trays::Settable;
 
@@ -33,6 +34,7 @@ fn words(rt: HostRuntime) -> Result<(), Fail> {
     assert_eq!(rt; Word::from("span"), Word::Span);
     assert_eq!(rt; Word::from("turns"), Word::Turns);
     assert_eq!(rt; Word::from("dual"), Word::Dual);
+    assert_eq!(rt; Word::from("estimate"), Word::Estimate);
     assert_eq!(rt; Word::from("Plain"), Word::Other);
     Ok(())
 }
@@ -59,6 +61,7 @@ fn check_turns(rt: &impl Abort, q: &Request, turns: &[u8]) -> Result<(), Fail> {
             Ok(())
         }
         Task::Dual => Err(Fail::new("the dual")),
+        Task::Estimate => Err(Fail::new("an estimate")),
     }
 }
 
@@ -97,6 +100,20 @@ fn sided_and_ring_requests(rt: HostRuntime) -> Result<(), Fail> {
 }
 
 #[test]
+fn estimate_requests(rt: HostRuntime) -> Result<(), Fail> {
+    let q = request(&rt, "plain 2 3 1 estimate")?;
+    assert_eq!(rt; q.trays.as_slice(), [2, 3, 1].as_slice());
+    assert!(rt; matches!(q.task, Task::Estimate));
+    let q = request(&rt, "sided -1 2 count 2 estimate")?;
+    assert_eq!(rt; q.count, Some(2));
+    assert!(rt; matches!(q.task, Task::Estimate));
+    let q = request(&rt, "ring 1 2 3 4 span 3 estimate")?;
+    assert_eq!(rt; q.span, Some(3));
+    assert!(rt; matches!(q.task, Task::Estimate));
+    Ok(())
+}
+
+#[test]
 fn misreads(rt: HostRuntime) -> Result<(), Fail> {
     check_misread(&rt, "", 0, Expected::Kind)?;
     check_misread(&rt, "1 2 turns", 0, Expected::Kind)?;
@@ -108,7 +125,11 @@ fn misreads(rt: HostRuntime) -> Result<(), Fail> {
     check_misread(&rt, "plain 1 count 1", 4, Expected::TaskWord)?;
     check_misread(&rt, "plain 1 turns 2 plain", 4, Expected::Turn)?;
     check_misread(&rt, "plain 1 turns -1", 3, Expected::Turn)?;
-    check_misread(&rt, "plain 1 dual 1", 3, Expected::End)
+    check_misread(&rt, "plain 1 dual 1", 3, Expected::End)?;
+    check_misread(&rt, "plain 1 dual estimate", 3, Expected::End)?;
+    check_misread(&rt, "plain 1 estimate 1", 3, Expected::End)?;
+    check_misread(&rt, "plain 1 turns 2 estimate", 4, Expected::Turn)?;
+    check_misread(&rt, "plain estimates", 1, Expected::Tray)
 }
 
 #[test]
@@ -117,10 +138,40 @@ fn misread_spans(rt: HostRuntime) -> Result<(), Fail> {
     check_misread(&rt, "sided 1 count 1 span 1 dual", 4, Expected::TaskWord)?;
     check_misread(&rt, "ring 1 turns", 2, Expected::RingTray)?;
     check_misread(&rt, "ring 1 dual", 2, Expected::RingTray)?;
+    check_misread(&rt, "ring 1 estimate", 2, Expected::RingTray)?;
     check_misread(&rt, "ring 1 count 1 turns", 4, Expected::SpanWord)?;
     check_misread(&rt, "ring 1 span turns", 3, Expected::SpanNumber)?;
     check_misread(&rt, "ring 1 span 1 count 1 turns", 4, Expected::TaskWord)?;
     check_misread(&rt, "ring 1 span 1", 4, Expected::TaskWord)
+}
+
+fn check_told(rt: &(impl Abort + AllocGlobal), expected: Expected, told: &str) -> Result<(), Fail> {
+    assert_eq!(rt; format!(in rt.alloc(); "{expected}")?.as_str(), told);
+    Ok(())
+}
+
+#[test]
+fn what_is_expected(rt: HostRuntime) -> Result<(), Fail> {
+    check_told(
+        &rt,
+        Expected::Tray,
+        "a tray (0 to 255, or -0 to -127), `count`, `turns`, `dual` or `estimate`",
+    )?;
+    check_told(&rt, Expected::TaskWord, "`turns`, `dual` or `estimate`")
+}
+
+fn check_failure(
+    rt: &(impl Abort + AllocGlobal),
+    line: &str,
+    failure: Failure,
+) -> Result<(), Fail> {
+    match perform(rt.alloc(), line) {
+        Ok(_) => Err(Fail::new("done")),
+        Err(f) => {
+            assert_eq!(rt; f, failure);
+            Ok(())
+        }
+    }
 }
 
 #[test]
@@ -133,17 +184,16 @@ fn outcomes(rt: HostRuntime) -> Result<(), Fail> {
         return Err(Fail::new("not followed"));
     };
     assert_eq!(rt; trace.ending, Ending::Home);
-    let Err(failure) = perform(rt.alloc(), "sided 1 -1 turns") else {
-        return Err(Fail::new("not refused"));
-    };
-    assert_eq!(rt;
-        failure,
-        Failure::Refused(Kind::Sided, Fault::TrayRepeated(1))
-    );
-    let Err(failure) = perform(rt.alloc(), "plain 1 x turns") else {
-        return Err(Fail::new("understood"));
-    };
-    assert_eq!(rt; failure, Failure::Unexpected(2, Expected::Tray));
+    check_failure(
+        &rt,
+        "plain 1 x turns",
+        Failure::Unexpected(2, Expected::Tray),
+    )?;
+    check_failure(
+        &rt,
+        "plain 1 2 estimate 3",
+        Failure::Unexpected(4, Expected::End),
+    )?;
     assert!(rt; matches!(perform(rt.alloc(), "  "), Ok(None)));
     Ok(())
 }
@@ -159,4 +209,53 @@ fn duals_of_lines(rt: HostRuntime) -> Result<(), Fail> {
     assert_eq!(rt; dual.trays(), [2, 4, 1, 3].as_slice());
     assert_eq!(rt; dual.span(), 3);
     Ok(())
+}
+
+fn check_done<M>(rt: &impl Abort, done: &Done<M>, estimates: Estimates) -> Result<(), Fail> {
+    let Done::Estimated(told) = done else {
+        return Err(Fail::new("no estimates"));
+    };
+    assert_eq!(rt; *told, estimates);
+    Ok(())
+}
+
+fn check_estimates(
+    rt: &(impl Abort + AllocGlobal),
+    line: &str,
+    estimates: Estimates,
+) -> Result<(), Fail> {
+    match perform(rt.alloc(), line)? {
+        None => Err(Fail::new("nothing asked")),
+        Some(Outcome::Plain(work)) => check_done(rt, &work.done, estimates),
+        Some(Outcome::Sided(work)) => check_done(rt, &work.done, estimates),
+        Some(Outcome::Ring(work)) => check_done(rt, &work.done, estimates),
+    }
+}
+
+#[test]
+fn estimates_of_lines(rt: HostRuntime) -> Result<(), Fail> {
+    check_estimates(&rt, "plain 1 3 2 estimate", told(2, 3, 3))?;
+    check_estimates(&rt, "sided -2 3 1 estimate", told(3, 3, 4))?;
+    check_estimates(&rt, "ring 2 3 4 1 span 2 estimate", told(0, 2, 2))
+}
+
+// No machine is set, whatever is asked of it.
+fn check_unset(
+    rt: &(impl Abort + AllocGlobal),
+    setting: &str,
+    kind: Kind,
+    fault: Fault,
+) -> Result<(), Fail> {
+    for task in ["turns", "dual", "estimate"] {
+        let line = format!(in rt.alloc(); "{setting} {task}")?;
+        check_failure(rt, &line, Failure::Refused(kind, fault))?;
+    }
+    Ok(())
+}
+
+#[test]
+fn refused_settings(rt: HostRuntime) -> Result<(), Fail> {
+    check_unset(&rt, "plain 1 2 count 1", Kind::Plain, Fault::TrayBeyond(1))?;
+    check_unset(&rt, "sided 1 -1", Kind::Sided, Fault::TrayRepeated(1))?;
+    check_unset(&rt, "ring 1 2 3 4 span 5", Kind::Ring, Fault::Span)
 }

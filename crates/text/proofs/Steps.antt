@@ -2,7 +2,7 @@ use Rattle.std.proofs.Common.{◌≡◌, ℕ, ◌≤◌, false, List, length, ta
 use Rattle.std.proofs.lemmas.List.{take_all}
 use Rattle.text.specs.declared.reader.Reader.{Reader}
 use Rattle.text.specs.declared.word.Word.{Word}
-use Rattle.text.specs.Lines.{Stuck, may_end}
+use Rattle.text.specs.Lines.{Stuck, asked, may_end}
 use Rattle.text.specs.Readers.{Begins}
 
 -- the line ends too early
@@ -12,7 +12,7 @@ stuck_end r words at end h not' = record {
   trays = vec_items r.trays;
   count = r.count;
   span = r.span;
-  turns = vec_items r.turns;
+  task = asked r.task;
   begun = rw (take_all (length words) words (omega arith)) (rw (take_all at words end) at h);
   wrong = inr (refl, not');
 }

@@ -2,7 +2,7 @@ use Rattle.std.specs.Prelude.{◌≡◌, ℕ, ◌+◌, ◌<◌, Bool, true, fals
 use Rattle.text.specs.declared.word.Kind.{Kind}
 use Rattle.text.specs.declared.word.Kind.TheVariants.{Ring}
 use Rattle.text.specs.declared.word.Word.{Word}
-use Rattle.text.specs.declared.word.Word.TheVariants.{Kind as Machine, Count, Span, Turns, Dual, Number, Away, Other}
+use Rattle.text.specs.declared.word.Word.TheVariants.{Kind as Machine, Count, Span, Turns, Dual, Estimate, Number, Away, Other}
 use Rattle.text.specs.declared.request.Task.{Task}
 use Rattle.text.specs.declared.request.Task.TheVariants as task
 use Rattle.text.specs.declared.request.Expected.{Expected}
@@ -32,15 +32,23 @@ abbrev pub span_words : Option ℕ → List Word
 span_words None = []
 span_words (Some n) = Span ∷ Number n ∷ []
 
--- The task: these turns, or the dual where there is `None`.
-abbrev pub task_words : Option (List ℕ) → List Word
-task_words (Some turns) = Turns ∷ map Number turns
-task_words None = Dual ∷ []
+-- What a line asks for: turns to make, the dual, or an estimate of the turns still needed.
+pub data Asked : Type 0 where
+  turns : List ℕ → Asked
+  dual : Asked
+  estimate : Asked
 
--- The task of a request, as `task_words` has it.
-abbrev pub asked : Task → Option (List ℕ)
-asked (task.Turns turns) = Some (vec_items turns)
-asked task.Dual = None
+-- The task, as a line writes it.
+abbrev pub task_words : Asked → List Word
+task_words (turns ks) = Turns ∷ map Number ks
+task_words dual = Dual ∷ []
+task_words estimate = Estimate ∷ []
+
+-- The task of a request.
+abbrev pub asked : Task → Asked
+asked (task.Turns ks) = turns (vec_items ks)
+asked task.Dual = dual
+asked task.Estimate = estimate
 
 abbrev pub is_ring : Kind → Bool
 is_ring Ring = true
@@ -56,7 +64,7 @@ Line ws kind trays count span rest =
     (ts : List Word) × TrayWords ts trays × (ws ≡ Machine kind ∷ (ts ++ (count_words count ++ (span_words span ++ rest))))
 
 -- The words ws are a line that asks this.
-abbrev pub Written : List Word → Kind → List ℕ → Option ℕ → Option ℕ → Option (List ℕ) → Type 0
+abbrev pub Written : List Word → Kind → List ℕ → Option ℕ → Option ℕ → Asked → Type 0
 Written ws kind trays count span task = HasSpan kind span × Line ws kind trays count span (task_words task)
 
 -- What may stand where this is expected. No line has a number above 127 after a minus sign, so none may stand anywhere.
@@ -67,6 +75,7 @@ may_stand place.Tray (Away n) = nat_lt n 128
 may_stand place.Tray Count = true
 may_stand place.Tray Turns = true
 may_stand place.Tray Dual = true
+may_stand place.Tray Estimate = true
 may_stand place.RingTray (Number n) = true
 may_stand place.RingTray (Away n) = nat_lt n 128
 may_stand place.RingTray Count = true
@@ -76,6 +85,7 @@ may_stand place.SpanWord Span = true
 may_stand place.SpanNumber (Number n) = true
 may_stand place.TaskWord Turns = true
 may_stand place.TaskWord Dual = true
+may_stand place.TaskWord Estimate = true
 may_stand place.Turn (Number n) = true
 may_stand e w = false
 
@@ -85,17 +95,23 @@ may_end place.Turn = true
 may_end place.End = true
 may_end e = false
 
--- The words ws begin a line, with this kind, these trays, this count, this span and these turns, and this is expected next.
-abbrev pub Begun : Expected → Kind → List ℕ → Option ℕ → Option ℕ → List ℕ → List Word → Type 0
-Begun place.Kind kind trays count span turns ws = (trays ≡ []) × (count ≡ None) × (span ≡ None) × (turns ≡ []) × (ws ≡ [])
-Begun place.Tray kind trays count span turns ws = IsFalse (is_ring kind) × (count ≡ None) × (span ≡ None) × (turns ≡ []) × Line ws kind trays None None []
-Begun place.RingTray kind trays count span turns ws = IsTrue (is_ring kind) × (count ≡ None) × (span ≡ None) × (turns ≡ []) × Line ws kind trays None None []
-Begun place.CountNumber kind trays count span turns ws = (count ≡ None) × (span ≡ None) × (turns ≡ []) × Line ws kind trays None None (Count ∷ [])
-Begun place.SpanWord kind trays count span turns ws = IsTrue (is_ring kind) × IsSome count × (span ≡ None) × (turns ≡ []) × Line ws kind trays count None []
-Begun place.SpanNumber kind trays count span turns ws = IsTrue (is_ring kind) × (span ≡ None) × (turns ≡ []) × Line ws kind trays count None (Span ∷ [])
-Begun place.TaskWord kind trays count span turns ws = HasSpan kind span × IsTrue (is_some span || is_some count) × (turns ≡ []) × Line ws kind trays count span []
-Begun place.Turn kind trays count span turns ws = Written ws kind trays count span (Some turns)
-Begun place.End kind trays count span turns ws = (turns ≡ []) × Written ws kind trays count span None
+-- What is expected after the task: one more turn, or the end of the line.
+abbrev pub after_task : Asked → Expected
+after_task (turns ks) = place.Turn
+after_task dual = place.End
+after_task estimate = place.End
+
+-- The words ws begin a line, with this kind, these trays, this count, this span and this task, and this is expected next. Before its word is read, the task is to make no turns.
+abbrev pub Begun : Expected → Kind → List ℕ → Option ℕ → Option ℕ → Asked → List Word → Type 0
+Begun place.Kind kind trays count span task ws = (trays ≡ []) × (count ≡ None) × (span ≡ None) × (task ≡ turns []) × (ws ≡ [])
+Begun place.Tray kind trays count span task ws = IsFalse (is_ring kind) × (count ≡ None) × (span ≡ None) × (task ≡ turns []) × Line ws kind trays None None []
+Begun place.RingTray kind trays count span task ws = IsTrue (is_ring kind) × (count ≡ None) × (span ≡ None) × (task ≡ turns []) × Line ws kind trays None None []
+Begun place.CountNumber kind trays count span task ws = (count ≡ None) × (span ≡ None) × (task ≡ turns []) × Line ws kind trays None None (Count ∷ [])
+Begun place.SpanWord kind trays count span task ws = IsTrue (is_ring kind) × IsSome count × (span ≡ None) × (task ≡ turns []) × Line ws kind trays count None []
+Begun place.SpanNumber kind trays count span task ws = IsTrue (is_ring kind) × (span ≡ None) × (task ≡ turns []) × Line ws kind trays count None (Span ∷ [])
+Begun place.TaskWord kind trays count span task ws = HasSpan kind span × IsTrue (is_some span || is_some count) × (task ≡ turns []) × Line ws kind trays count span []
+Begun place.Turn kind trays count span task ws = (after_task task ≡ place.Turn) × Written ws kind trays count span task
+Begun place.End kind trays count span task ws = (after_task task ≡ place.End) × Written ws kind trays count span task
 
 -- The words before `at` begin a line, and what stands at `at` may not stand there, or the line ends there and may not.
 pub record Stuck (ws : List Word) (at : ℕ) (expected : Expected) : Type 0 where
@@ -103,8 +119,8 @@ pub record Stuck (ws : List Word) (at : ℕ) (expected : Expected) : Type 0 wher
   pub trays : List ℕ
   pub count : Option ℕ
   pub span : Option ℕ
-  pub turns : List ℕ
-  pub begun : Begun expected kind trays count span turns (take at ws)
+  pub task : Asked
+  pub begun : Begun expected kind trays count span task (take at ws)
   pub wrong : ((at < length ws) × IsFalse (may_stand expected (slice_index_or ws at Other))) ⊎ ((at ≡ length ws) × IsFalse (may_end expected))
 
 abbrev pub Misreads : List Word → Misread → Type 0

@@ -24,7 +24,7 @@ after_count Ring = place.SpanWord
 
 -- The reader has read these words.
 abbrev pub Begins : Reader → List Word → Type 0
-Begins r ws = Begun r.expected r.kind (vec_items r.trays) r.count r.span (vec_items r.turns) ws
+Begins r ws = Begun r.expected r.kind (vec_items r.trays) r.count r.span (asked r.task) ws
 
 -- The reader has read one word more.
 abbrev pub Stepped : Reader → Word → Reader → Type 0

@@ -5,11 +5,11 @@ use Rattle.text.specs.declared.request.Expected.TheVariants.{Kind, Tray, RingTra
 -- How what is expected is told.
 abbrev pub expected_text : Expected → List ℕ
 expected_text Kind = codes "`plain`, `sided` or `ring`"
-expected_text Tray = codes "a tray (0 to 255, or -0 to -127), `count`, `turns` or `dual`"
+expected_text Tray = codes "a tray (0 to 255, or -0 to -127), `count`, `turns`, `dual` or `estimate`"
 expected_text RingTray = codes "a tray (0 to 255, or -0 to -127), `count` or `span`"
 expected_text CountNumber = codes "the number of trays, from 0 to 255"
 expected_text SpanWord = codes "`span`"
 expected_text SpanNumber = codes "the span, from 0 to 255"
-expected_text TaskWord = codes "`turns` or `dual`"
+expected_text TaskWord = codes "`turns`, `dual` or `estimate`"
 expected_text Turn = codes "a turn number from 0 to 255"
 expected_text End = codes "the end of the line"

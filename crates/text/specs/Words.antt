@@ -5,7 +5,7 @@ use Rattle.std.specs.Str.{NoCharPasses, EmptyOrStartsWithPassing}
 use Rattle.text.specs.declared.word.Kind.{Kind}
 use Rattle.text.specs.declared.word.Kind.TheVariants.{Plain, Sided, Ring}
 use Rattle.text.specs.declared.word.Word.{Word}
-use Rattle.text.specs.declared.word.Word.TheVariants.{Kind as Machine, Count, Span, Turns, Dual, Number, Away, Other}
+use Rattle.text.specs.declared.word.Word.TheVariants.{Kind as Machine, Count, Span, Turns, Dual, Estimate, Number, Away, Other}
 
 -- decimal digits, after a plus sign or none, that write n, a number from 0 to 255
 abbrev pub IsNumber : List ℕ → ℕ → Type 0
@@ -32,6 +32,7 @@ Spells bs Count = bs ≡ codes "count"
 Spells bs Span = bs ≡ codes "span"
 Spells bs Turns = bs ≡ codes "turns"
 Spells bs Dual = bs ≡ codes "dual"
+Spells bs Estimate = bs ≡ codes "estimate"
 Spells bs (Number n) = IsNumber bs n
 Spells bs (Away n) = IsAway bs n
 Spells bs Other =
@@ -42,6 +43,7 @@ Spells bs Other =
     × (bs ≢ codes "span")
     × (bs ≢ codes "turns")
     × (bs ≢ codes "dual")
+    × (bs ≢ codes "estimate")
     × ((n : ℕ) → ¬ IsNumber bs n)
     × ((n : ℕ) → ¬ IsAway bs n)
 

@@ -1,4 +1,5 @@
 ghost use Rattle.std.specs.Prelude.{◌≡◌, List, [], IfErr, IsTrue, OnOk};
+ghost use Rattle.text.specs.declared.request.Expected.TheVariants.{End, Turn};
 ghost use Rattle.text.specs.declared.word.Word.TheVariants.{Away, Number};
 ghost use Rattle.text.specs.Lines.{Misreads, may_end, may_stand};
 ghost use Rattle.text.specs.Readers.{Asks, Begins, IsRead, Refuses, Stepped, after_count, after_kind};
@@ -7,14 +8,14 @@ use crate::request::{Expected, Misread, Request, Task};
 use crate::word::{Kind, Word};
 use std::alloc::{AllocError, Global};
 
-// A line half read: what has been read, and what is expected next. Before the first word the kind says nothing; an `Option` would be no plainer, since `finish` would have to open it where it is always there.
+// A line half read: what has been read, and what is expected next. Before the first word the kind says nothing, and before its word is read the task has no turns; an `Option` of either would be no plainer, since `finish` would have to open it where it is always there.
 #[derive(Drop)]
 pub(crate) struct Reader {
     kind: Kind,
     trays: Vec<u8>,
     count: Option<u8>,
     span: Option<u8>,
-    turns: Vec<u8>,
+    task: Task,
     expected: Expected,
 }
 
@@ -27,7 +28,7 @@ impl Reader {
             trays: Vec::new(heap),
             count: None,
             span: None,
-            turns: Vec::new(heap),
+            task: Task::Turns(Vec::new(heap)),
             expected: Expected::Kind,
         }
     }
@@ -63,12 +64,21 @@ impl Reader {
             Word::Count => self.expected = Expected::CountNumber,
             Word::Span => self.expected = Expected::SpanNumber,
             Word::Turns => self.expected = Expected::Turn,
-            Word::Dual => self.expected = Expected::End,
+            Word::Dual => self.end_with(Task::Dual),
+            Word::Estimate => self.end_with(Task::Estimate),
             Word::Number(n) => self.take(n)?,
             Word::Away(n) => self.take_away(n)?,
             Word::Other => unreachable!(),
         }
         Ok(())
+    }
+
+    // Takes a task that ends the line.
+    fn end_with(&mut self, task: Task)
+        ensures { self.new ≡ record self.old { task = task; expected = End } }
+    {
+        self.task = task;
+        self.expected = Expected::End;
     }
 
     // Takes a number as what is expected here.
@@ -86,8 +96,19 @@ impl Reader {
                 self.span = Some(n);
                 self.expected = Expected::TaskWord;
             }
-            Expected::Turn => self.turns.push(n)?,
+            Expected::Turn => self.take_turn(n)?,
             _ => unreachable!(),
+        }
+        Ok(())
+    }
+
+    // Takes the next turn. One is expected only where the task is to make turns.
+    fn take_turn(&mut self, n: u8) -> Result<(), AllocError>
+        requires { self.old.expected ≡ Turn }
+        ensures { OnOk result (Stepped self.old (Number n) self.new) }
+    {
+        if let Task::Turns(turns) = &mut self.task {
+            turns.push(n)?;
         }
         Ok(())
     }
@@ -111,13 +132,9 @@ impl Reader {
             trays,
             count,
             span,
-            turns,
-            expected,
+            task,
+            ..
         } = self;
-        let task = match expected {
-            Expected::Turn => Task::Turns(turns),
-            _ => Task::Dual,
-        };
         Request {
             kind,
             trays,
@@ -137,7 +154,10 @@ impl Expected {
             Word::Kind(_) => matches!(self, Expected::Kind),
             Word::Count => matches!(self, Expected::Tray | Expected::RingTray),
             Word::Span => matches!(self, Expected::RingTray | Expected::SpanWord),
-            Word::Turns | Word::Dual => matches!(self, Expected::Tray | Expected::TaskWord),
+            Word::Turns | Word::Dual | Word::Estimate => matches!(
+                self,
+                Expected::Tray | Expected::TaskWord
+            ),
             Word::Number(_) => matches!(
                 self,
                 Expected::Tray

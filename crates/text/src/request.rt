@@ -38,13 +38,15 @@ impl Request {
     }
 }
 
-// What is to be done with the machine. An `Option` of turns would be no plainer: whatever else is to be done is one more case.
+// What is to be done with the machine.
 #[derive(Drop)]
 pub enum Task {
     // make these turns
     Turns(Vec<u8>),
     // show its dual
     Dual,
+    // estimate the turns that it still needs
+    Estimate,
 }
 
 // What may stand at a place of a line.
@@ -52,7 +54,7 @@ pub enum Task {
 pub enum Expected {
     // the kind of machine
     Kind,
-    // a tray of a tower, `count`, `turns` or `dual`
+    // a tray of a tower, `count`, `turns`, `dual` or `estimate`
     Tray,
     // a tray of a ring, `count` or `span`
     RingTray,
@@ -62,7 +64,7 @@ pub enum Expected {
     SpanWord,
     // the number after `span`
     SpanNumber,
-    // `turns` or `dual`
+    // `turns`, `dual` or `estimate`
     TaskWord,
     // a turn, or the end of the line
     Turn,
@@ -76,12 +78,13 @@ impl fmt::Display for Expected {
     fn fmt<W: fmt::Write>(&self, f: &mut fmt::Formatter<W>) -> fmt::Result {
         f.write_str(match self {
             Expected::Kind => "`plain`, `sided` or `ring`",
-            Expected::Tray => "a tray (0 to 255, or -0 to -127), `count`, `turns` or `dual`",
+            Expected::Tray =>
+                "a tray (0 to 255, or -0 to -127), `count`, `turns`, `dual` or `estimate`",
             Expected::RingTray => "a tray (0 to 255, or -0 to -127), `count` or `span`",
             Expected::CountNumber => "the number of trays, from 0 to 255",
             Expected::SpanWord => "`span`",
             Expected::SpanNumber => "the span, from 0 to 255",
-            Expected::TaskWord => "`turns` or `dual`",
+            Expected::TaskWord => "`turns`, `dual` or `estimate`",
             Expected::Turn => "a turn number from 0 to 255",
             Expected::End => "the end of the line",
         })

@@ -31,6 +31,7 @@ pub enum Word {
     Span,
     Turns,
     Dual,
+    Estimate,
     // a decimal number from 0 to 255
     Number(u8),
     // a minus sign and a decimal number from 0 to 127
@@ -52,6 +53,7 @@ impl From<&str> for Word {
             "span" => Word::Span,
             "turns" => Word::Turns,
             "dual" => Word::Dual,
+            "estimate" => Word::Estimate,
             _ => match text.parse() {
                 Ok(n) => Word::Number(n),
                 Err(_) => away(text).map_or(Word::Other, Word::Away),

@@ -1,9 +1,9 @@
-use crate::shown::{Listed, Refusal};
+use crate::shown::{Listed, Refusal, count_name};
 use anyhow::bail;
 use machine::{Ending, Trace};
 use std::fmt::Display;
 use std::io;
-use task::{Done, Failure, Outcome, Work, perform};
+use task::{Done, Estimates, Failure, Outcome, Work, perform};
 use text::{Expected, Kind};
 use trays::Settable;
 
@@ -48,7 +48,20 @@ where
     match &work.done {
         Done::Followed(turns, trace) => show_turns(rt, kind, turns, trace),
         Done::Mirrored(dual) => println!(rt; "dual:{}", Listed(dual.trays())),
+        Done::Estimated(estimates) => show_estimates(rt, kind, estimates),
     }
+}
+
+// Prints the estimates of the turns that a machine of this kind still needs.
+fn show_estimates(rt: &HostRuntime, kind: Kind, estimates: &Estimates) -> io::Result<()> {
+    let Estimates {
+        count,
+        look_ahead,
+        dual_lookup,
+    } = estimates;
+    println!(rt; "{}: {count}", count_name(kind))?;
+    println!(rt; "look-ahead: {look_ahead}")?;
+    println!(rt; "dual over look-ahead: {dual_lookup}")
 }
 
 // Prints the trays after each turn, and how the turns ended.

@@ -15,6 +15,15 @@ impl<'a, T: fmt::Display> fmt::Display for Listed<'a, T> {
     }
 }
 
+// What is counted in a machine of this kind, as an estimate of the turns that it needs.
+pub(crate) fn count_name(kind: Kind) -> &'static str {
+    match kind {
+        Kind::Plain => "gaps",
+        Kind::Sided => "breakpoints",
+        Kind::Ring => "half gaps",
+    }
+}
+
 // Why a machine of this kind refused to be set, or to make this turn.
 #[derive(Clone, Copy)]
 pub(crate) struct Refusal {

@@ -7,10 +7,10 @@ use Rattle.trays.specs.Run.{RunReversed, place_on, steps_to, partner, run_turned
 use Rattle.trays.proofs.Exchange.{Move, Exchange, Moved}
 
 module _ (n a : ℕ) (start : a < n) where
-  on_near : (j : ℕ) → a + j < n → place_on n a j ≡ a + j
+  pub on_near : (j : ℕ) → a + j < n → place_on n a j ≡ a + j
   on_near j lt = cond-true (ltb (a + j) n) (a + j) (a + j - n) (lt-ltb (a + j) n lt)
 
-  on_far : (j : ℕ) → n ≤ a + j → place_on n a j ≡ a + j - n
+  pub on_far : (j : ℕ) → n ≤ a + j → place_on n a j ≡ a + j - n
   on_far j ge = cond-false (ltb (a + j) n) (a + j) (a + j - n) (le-ltb (a + j) n ge)
 
   to_near : (i : ℕ) → a ≤ i → steps_to n a i ≡ i - a
@@ -19,11 +19,11 @@ module _ (n a : ℕ) (start : a < n) where
   to_far : (i : ℕ) → i < a → steps_to n a i ≡ i + n - a
   to_far i lt = cond-false (leb a i) (i - a) (i + n - a) (lt-leb a i lt)
 
-  on_within : (j : ℕ) → j < n → place_on n a j < n
+  pub on_within : (j : ℕ) → j < n → place_on n a j < n
   on_within j lt =
       ⊎_elim (λ (near : a + j < n). let e = on_near j near in omega arith) (λ (far : n ≤ a + j). let e = on_far j far in omega arith) (cases_lt (a + j) n)
 
-  to_on : (j : ℕ) → j < n → steps_to n a (place_on n a j) ≡ j
+  pub to_on : (j : ℕ) → j < n → steps_to n a (place_on n a j) ≡ j
   to_on j lt =
       ⊎_elim
       (λ (near : a + j < n). let e = on_near j near in let q = to_near (place_on n a j) (omega arith) in omega arith)

@@ -1,0 +1,3 @@
+pub mod Meaning
+pub mod Layers
+pub mod Laws

@@ -1,0 +1,16 @@
+use Rattle.std.specs.Prelude.{◌≡◌, ℕ, ◌+◌, ◌≤◌, true, List, length}
+use Rattle.machine.specs.Meaning.{Meaning, InRange, Brings}
+
+-- The number is at most the length of every list of turns that brings the state home.
+abbrev pub Admissible : {S : Type 0} → Meaning S → (S → ℕ) → Type 0
+Admissible {S} m e = (s : S) (ks : List ℕ) → Brings m ks s → e s ≤ length ks
+
+-- What every estimate owes: a number from 0 to 250 for each state, which is admissible.
+pub record IsEstimate {S : Type 0} (m : Meaning S) (e : S → ℕ) : Type 0 where
+  pub to_250 : (s : S) → e s ≤ 250
+  pub admissible : Admissible m e
+
+-- Home has 0, and a turn lowers the number by at most `step`.
+pub record Consistent {S : Type 0} (m : Meaning S) (step : ℕ) (e : S → ℕ) : Type 0 where
+  pub home : (s : S) → m.home s ≡ true → e s ≡ 0
+  pub turn : (s : S) (k : ℕ) → InRange m s k → e s ≤ e (m.after s k) + step

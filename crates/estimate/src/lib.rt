@@ -1,0 +1,9 @@
+#![tactic(auto)]
+
+mod dual_lookup;
+mod interface;
+mod look_ahead;
+
+pub use dual_lookup::DualLookup;
+pub use interface::Estimate;
+pub use look_ahead::LookAhead;

@@ -1,0 +1,2 @@
+pub mod Counts
+pub mod Laws
