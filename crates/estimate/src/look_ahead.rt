@@ -37,7 +37,7 @@ fn least_after<M: Machine + Copy, E: Estimate<M>>(machine: &M, estimate: &E) -> 
     let TurnRange { lowest, highest } = machine.range();
     (lowest..=highest)
         .map(|k| ask_after(machine, estimate, k))
-        .min()
+        .reduce(u8::min)
 }
 
 // The estimate after turn k.

@@ -1,8 +1,8 @@
-use Rattle.std.proofs.Common.{rules, sym, ◌∙◌}
+use Rattle.std.proofs.Common.{rules, min}
 use Rattle.std.proofs.lemmas.Iterator.{YieldsList-from_map}
-use Rattle.std.proofs.lemmas.Iterator.Adapters.{option_map_id}
-use Rattle.std.proofs.lemmas.Iterator.Consumers.{min_from_yields_List, YieldsList-at}
+use Rattle.std.proofs.lemmas.Iterator.Consumers.{YieldsList-at}
 use Rattle.estimate.proofs.Ranges.{closed}
+use Rattle.estimate.proofs.Reduced.{reduced}
 use Rattle.estimate.proofs.look_ahead.least_after.Goals as goal
 
 pub returns : goal.returns
@@ -10,5 +10,4 @@ returns g c =
     let m = g.M.Machine.meaning in
     let s = g.M.Machine.state c.args.machine.now in
     let e = g.E.Estimate.value c.args.estimate.now in
-    sym (option_map_id _)
-    ∙ min_from_yields_List c.map.result _ c.min.ensures.ran (YieldsList-from_map _ (λ k. e (m.after s k)) (YieldsList-at c.map.ensures.source (closed (m.lowest s) (m.highest s) _ _ c.new.result c.range-lowest.ensures.lowest c.range-lowest.ensures.highest c.new.ensures.start c.new.ensures.end c.new.ensures.exhausted)) c.map.ensures.closure (λ x r q k. search rules))
+    reduced _ _ min (λ a x b q k. search rules) c.map.result c.reduce.result c.reduce.ensures.ran (YieldsList-from_map _ (λ k. e (m.after s k)) (YieldsList-at c.map.ensures.source (closed (m.lowest s) (m.highest s) _ _ c.new.result c.range-lowest.ensures.lowest c.range-lowest.ensures.highest c.new.ensures.start c.new.ensures.end c.new.ensures.exhausted)) c.map.ensures.closure (λ x r q k. search rules))
