@@ -24,3 +24,5 @@ mod sweeps;
 mod swing;
 #[cfg(test)]
 mod texts;
+#[cfg(test)]
+mod thresholds;

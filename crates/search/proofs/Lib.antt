@@ -1,0 +1,7 @@
+pub mod Bounds
+pub mod Finding
+pub mod Limits
+pub mod Lists
+pub mod Rounds
+pub mod Rows
+pub mod Searches

@@ -1,0 +1,5 @@
+#![tactic(auto)]
+
+mod threshold;
+
+pub use threshold::first_threshold;

@@ -1,0 +1,2 @@
+pub mod Stacks
+pub mod Worked
