@@ -1,9 +1,10 @@
 use Rattle.std.proofs.Common.{◌≡◌, ℕ, zero, suc, ◌+◌, ◌-◌, ◌≤◌, ◌<◌, List, [], length, Option, Some, None, refl, sym, ap, ◌∙◌, arith, nat_lt}
-use Rattle.std.proofs.lemmas.Bool.{cond-true, cond_both, ltb-false, lt-ltb}
+use Rattle.std.proofs.lemmas.Bool.{cond-true, lt-ltb}
 use Rattle.machine.specs.Meaning.{Meaning}
 use Rattle.search.specs.Search.{Look, followed_by, least_cut, look_and_below, looks_within, looks_from, round, next_threshold, round_and_later, rounds_within, rounds_from}
 use Rattle.search.specs.Shortest.{Unbounded}
 use Rattle.search.proofs.Rows.{Above}
+use Rattle.search.proofs.Thresholds.{allowed_cases}
 use Rattle.search.proofs.Searches.{round_above}
 
 -- The bounds in the definitions leave nothing out.
@@ -23,9 +24,7 @@ module _ {S : Type 0} (m : Meaning S) (e : S → ℕ) where
         by_least : (c : Option ℕ) → Above t c → ◌≡◌ {A = List Look} (elim (next_threshold limit c) [ None ↦ [] | Some u ↦ f u ]) (elim (next_threshold limit c) [ None ↦ [] | Some u ↦ g u ])
         by_least None high = refl
         by_least (Some u) high =
-            cond_both (nat_lt limit u) None (Some u) (λ o. ◌≡◌ {A = List Look} (elim o [ None ↦ [] | Some u ↦ f u ]) (elim o [ None ↦ [] | Some u ↦ g u ]))
-            (λ over. refl)
-            (λ in_reach. same u high (ltb-false limit u in_reach))
+            allowed_cases (λ o. ◌≡◌ {A = List Look} (elim o [ None ↦ [] | Some u ↦ f u ]) (elim o [ None ↦ [] | Some u ↦ g u ])) limit u (λ over. refl) (same u high)
 
     rounds_same : (a b t : ℕ) → limit < a + t → limit < b + t → t ≤ limit → rounds_within m e limit s a t ≡ rounds_within m e limit s b t
     rounds_same zero b t p q le = absurd (omega arith)
@@ -36,7 +35,7 @@ module _ {S : Type 0} (m : Meaning S) (e : S → ℕ) where
     rounds_on t le =
         let first : suc limit - t ≡ suc (limit - t) = omega arith in
         ap (λ n. rounds_within m e limit s n t) first
-        ∙ round_and_later_same (rounds_within m e limit s (limit - t)) (rounds_from m e limit s) t (λ u more in_reach. rounds_same (limit - t) (suc limit - u) u (omega arith) (omega arith) in_reach)
+        ∙ round_and_later_same (rounds_within m e limit s (limit - t)) (rounds_from m e limit s) t (λ u more le. rounds_same (limit - t) (suc limit - u) u (omega arith) (omega arith) le)
 
   pub unbounded : Unbounded m e
   unbounded = record { looks = λ threshold made s. looks_on threshold (suc threshold - length made) made s refl; rounds = rounds_on }

@@ -5,3 +5,4 @@ pub mod Lists
 pub mod Rounds
 pub mod Rows
 pub mod Searches
+pub mod Thresholds

@@ -1,9 +1,9 @@
-use Rattle.std.proofs.Common.{◌≡◌, ℕ, zero, suc, ◌+◌, ◌-◌, ◌≤◌, ◌<◌, List, [], ◌∷◌, length, Option, Some, None, refl, sym, subst, ap, ◌∙◌, arith, nat_lt}
-use Rattle.std.proofs.lemmas.Bool.{cond-false, cond_both, ltb-true, ltb-false, le-ltb}
+use Rattle.std.proofs.Common.{◌≡◌, ℕ, zero, suc, ◌+◌, ◌-◌, ◌≤◌, ◌<◌, List, [], ◌∷◌, length, Option, Some, None, refl, sym, subst, ap, ◌∙◌, arith}
 use Rattle.machine.specs.Meaning.{Meaning, Lawful, Brings}
 use Rattle.estimate.specs.Meaning.{Admissible}
 use Rattle.search.specs.Search.{Look, cut, home, continued, followed_by, plan, least_cut, round, allowed, next_threshold, rounds_within, rounds_from, all_looks}
 use Rattle.search.proofs.Rows.{WhenNone, AtMost, Above}
+use Rattle.search.proofs.Thresholds.{allowed_cases}
 use Rattle.search.proofs.Searches.{plan_followed_by, round_above, round_at_most}
 
 -- Another limit that allows the plan changes nothing.
@@ -26,12 +26,12 @@ module _ {S : Type 0} (m : Meaning S) (e : S → ℕ) (limit : ℕ) (s : S) (law
   same_next : (t : ℕ) (f g : ℕ → List Look) → ((u : ℕ) → t < u → u ≤ limit → u ≤ length p → plan (g u) ≡ Some p → f u ≡ g u) → (c : Option ℕ) → Above t c → AtMost (length p) c → plan (elim (next_threshold limit c) [ None ↦ [] | Some u ↦ g u ]) ≡ Some p → Same c f g
   same_next t f g later None high few found = absurd few
   same_next t f g later (Some u) high few found =
-      cond_both (nat_lt other u) None (Some u) (λ o. ◌≡◌ {A = List Look} (elim o [ None ↦ [] | Some u ↦ f u ]) (elim (allowed limit u) [ None ↦ [] | Some u ↦ g u ]))
-      (λ over. let far = ltb-true other u over in absurd (omega arith))
+      allowed_cases (λ o. ◌≡◌ {A = List Look} (elim o [ None ↦ [] | Some u ↦ f u ]) (elim (allowed limit u) [ None ↦ [] | Some u ↦ g u ])) other u
+      (λ over. absurd (omega arith))
       (λ _.
-      cond_both (nat_lt limit u) None (Some u) (λ o. plan (elim o [ None ↦ [] | Some u ↦ g u ]) ≡ Some p → f u ≡ elim o [ None ↦ [] | Some u ↦ g u ])
-      (λ _ none. absurd (subst IsNone none tt))
-      (λ in_reach found. later u high (ltb-false limit u in_reach) few found)
+      allowed_cases (λ o. plan (elim o [ None ↦ [] | Some u ↦ g u ]) ≡ Some p → f u ≡ elim o [ None ↦ [] | Some u ↦ g u ]) limit u
+      (λ over none. absurd (subst IsNone none tt))
+      (λ le found. later u high le few found)
       found)
 
   rounds_limit : (a b t : ℕ) → limit < a + t → other < b + t → t ≤ limit → t ≤ length p → plan (rounds_within m e limit s a t) ≡ Some p → rounds_within m e other s b t ≡ rounds_within m e limit s a t
@@ -49,11 +49,10 @@ module _ {S : Type 0} (m : Meaning S) (e : S → ℕ) (limit : ℕ) (s : S) (law
 
   pub all_looks_limit : plan (all_looks m e limit s) ≡ Some p → all_looks m e other s ≡ all_looks m e limit s
   all_looks_limit =
-      cond_both (nat_lt limit (e s)) None (Some (e s)) (λ o. plan (elim o [ None ↦ cut (e s) ∷ [] | Some t ↦ rounds_from m e limit s t ]) ≡ Some p → all_looks m e other s ≡ elim o [ None ↦ cut (e s) ∷ [] | Some t ↦ rounds_from m e limit s t ])
-      (λ _ none. absurd (subst IsNone none tt))
-      (λ in_reach found.
-      let le = ltb-false limit (e s) in_reach in
       let short = low s p brings in
-      let allowed : e s ≤ other = omega arith in
-      ap (λ o. elim o as (λ _. List Look) [ None ↦ cut (e s) ∷ [] | Some t ↦ rounds_from m e other s t ]) (cond-false (nat_lt other (e s)) None (Some (e s)) (le-ltb other (e s) allowed))
-      ∙ rounds_limit (suc limit - e s) (suc other - e s) (e s) (omega arith) (omega arith) le short found)
+      allowed_cases (λ o. plan (all_looks m e limit s) ≡ Some p → elim o as (λ _. List Look) [ None ↦ cut (e s) ∷ [] | Some t ↦ rounds_from m e other s t ] ≡ all_looks m e limit s) other (e s)
+      (λ over. absurd (omega arith))
+      (λ fits.
+      allowed_cases (λ o. plan (elim o [ None ↦ cut (e s) ∷ [] | Some t ↦ rounds_from m e limit s t ]) ≡ Some p → rounds_from m e other s (e s) ≡ elim o [ None ↦ cut (e s) ∷ [] | Some t ↦ rounds_from m e limit s t ]) limit (e s)
+      (λ over none. absurd (subst IsNone none tt))
+      (λ le found. rounds_limit (suc limit - e s) (suc other - e s) (e s) (omega arith) (omega arith) le short found))

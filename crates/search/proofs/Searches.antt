@@ -1,10 +1,10 @@
-use Rattle.std.proofs.Common.{◌≡◌, ℕ, zero, suc, ◌+◌, ◌-◌, ◌≤◌, ◌<◌, List, [], ◌∷◌, length, Option, Some, None, refl, sym, subst, arith, nat_lt}
-use Rattle.std.proofs.lemmas.Bool.{cond_both, ltb-true, ltb-false}
+use Rattle.std.proofs.Common.{◌≡◌, ℕ, zero, suc, ◌+◌, ◌-◌, ◌≤◌, ◌<◌, List, [], ◌∷◌, length, Option, Some, None, refl, sym, subst, arith}
 use Rattle.machine.specs.Meaning.{Meaning, Lawful, Brings}
 use Rattle.estimate.specs.Meaning.{Admissible}
 use Rattle.search.specs.Search.{Look, cut, home, continued, followed_by, plan, cuts, least_cut, looks_within, round, next_threshold, rounds_within, rounds_from, all_looks, search}
 use Rattle.search.specs.Shortest.{Shortest, AllLonger}
 use Rattle.search.proofs.Rows.{WhenFound, WhenNone, AtMost, Above, each_plan, each_cut, covers_cut, at_most, above}
+use Rattle.search.proofs.Thresholds.{allowed_cases}
 use Rattle.search.proofs.Rounds.{Sound, look_cases, round_sound, round_covers}
 
 pub plan_followed_by : (xs ys : List Look) → plan (followed_by xs ys) ≡ elim (plan xs) [ None ↦ plan ys | Some p ↦ Some p ]
@@ -47,15 +47,15 @@ module _ {S : Type 0} (m : Meaning S) (e : S → ℕ) (limit : ℕ) (s : S) wher
         join (Some p) c found high covered later = let within = found.1 in record { brings = found.0; within = omega arith; least = λ q b. let l = lower q b in omega arith }
         join None None found high covered later = λ q b. absurd (covered q b)
         join None (Some u) found high covered later =
-            cond_both (nat_lt limit u) None (Some u) (λ o. Ends m limit s (plan (elim o [ None ↦ [] | Some u ↦ rounds_within m e limit s more u ])))
-            (λ over q b. let far = ltb-true limit u over in let c = covered q b in omega arith)
-            (λ in_reach. later u (omega arith) (ltb-false limit u in_reach) covered)
+            allowed_cases (λ o. Ends m limit s (plan (elim o [ None ↦ [] | Some u ↦ rounds_within m e limit s more u ]))) limit u
+            (λ over q b. let c = covered q b in omega arith)
+            (λ le. later u (omega arith) le covered)
 
     pub ends : Ends m limit s (plan (all_looks m e limit s))
     ends =
-        cond_both (nat_lt limit (e s)) None (Some (e s)) (λ o. Ends m limit s (plan (elim o [ None ↦ cut (e s) ∷ [] | Some t ↦ rounds_from m e limit s t ])))
-        (λ over q b. let far = ltb-true limit (e s) over in let l = low s q b in omega arith)
-        (λ in_reach. let le = ltb-false limit (e s) in_reach in ends_from (suc limit - e s) (e s) (omega arith) le (low s))
+        allowed_cases (λ o. Ends m limit s (plan (elim o [ None ↦ cut (e s) ∷ [] | Some t ↦ rounds_from m e limit s t ]))) limit (e s)
+        (λ over q b. let l = low s q b in omega arith)
+        (λ le. ends_from (suc limit - e s) (e s) (omega arith) le (low s))
 
     pub none_if : (o : Option (List ℕ)) → Ends m limit s o → AllLonger m limit s → o ≡ None
     none_if None ends far = refl
@@ -79,6 +79,6 @@ module _ {S : Type 0} (m : Meaning S) (e : S → ℕ) (limit : ℕ) (s : S) wher
 
   pub some_looks : 1 ≤ (search m e limit s).looks
   some_looks =
-      cond_both (nat_lt limit (e s)) None (Some (e s)) (λ o. 1 ≤ length {A = Look} (elim o [ None ↦ cut (e s) ∷ [] | Some t ↦ rounds_from m e limit s t ]))
+      allowed_cases (λ o. 1 ≤ length {A = Look} (elim o [ None ↦ cut (e s) ∷ [] | Some t ↦ rounds_from m e limit s t ])) limit (e s)
       (λ over. omega arith)
-      (λ in_reach. let le = ltb-false limit (e s) in_reach in first_round (suc limit - e s) (e s) (omega arith) le)
+      (λ le. first_round (suc limit - e s) (e s) (omega arith) le)

@@ -45,7 +45,7 @@ worked_searches =
     ∷ (search ring half_gaps 64 ring_two_one_four_three, found 9 (1 ∷ 3 ∷ []))
     ∷ []
 
--- What the definitions give at small stacks. Both rings have span 2.
+-- What the definitions give at small stacks. The rings have span 2.
 pub record WorkedStacks : Type 0 where
   pub one_gaps : gaps one ≡ 0
   pub two_gaps : gaps two_one ≡ 1
