@@ -63,13 +63,13 @@ module _ {S : Type 0} (m : Meaning S) (e : S → ℕ) (limit : ℕ) (s : S) wher
 
   -- there is a look
 
-  some_followed_by : (xs ys : List Look) → 1 ≤ length xs → 1 ≤ length (followed_by xs ys)
+  pub some_followed_by : (xs ys : List Look) → 1 ≤ length xs → 1 ≤ length (followed_by xs ys)
   some_followed_by [] ys some = absurd (omega arith)
   some_followed_by (cut t ∷ xs) ys some = omega arith
   some_followed_by (home p ∷ xs) ys some = omega arith
   some_followed_by (continued ∷ xs) ys some = omega arith
 
-  first_look : (t depth : ℕ) (made : List ℕ) → 1 ≤ length (looks_within m e t depth made s)
+  pub first_look : (t depth : ℕ) (made : List ℕ) → 1 ≤ length (looks_within m e t depth made s)
   first_look t zero made = omega arith
   first_look t (suc depth) made = look_cases m e t (λ xs. 1 ≤ length xs) (looks_within m e t depth) made s (λ _. omega arith) (λ _ _. omega arith) (λ _ _. omega arith)
 

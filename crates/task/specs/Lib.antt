@@ -1,3 +1,5 @@
 pub mod Failures
 pub mod Outcomes
+pub mod Plans
+pub mod Verdicts
 pub mod Work

@@ -1,4 +1,5 @@
 use machine::Trace;
+use planner::Fault;
 use ring::TrayRing;
 use towers::{PlainTower, SidedTower};
 
@@ -26,6 +27,21 @@ pub enum Done<M> {
     Mirrored(M),
     // it was asked how many turns it still needs
     Estimated(Estimates),
+    // a plan within this limit was asked for
+    Planned(u8, Planned<M>),
+}
+
+// What came of the search for a plan within a limit. Looks are those of the search.
+#[derive(Drop)]
+pub enum Planned<M> {
+    // the planner refused to search: the limit is too high
+    Refused(Fault),
+    // A plan was found after these looks. It was followed, and its turns stand apart from the states, as in a list of turns that was asked for.
+    Found(Vec<u8>, Trace<M>, u32),
+    // there is no plan within the limit, which these looks showed
+    NoPlan(u32),
+    // the search has not ended after these looks, which are all that a planner makes
+    Unfinished(u32),
 }
 
 // Estimates of the turns that a machine still needs.

@@ -6,7 +6,8 @@ ghost use Rattle.task.specs.Work.{Attempted, Does};
 use crate::estimating::estimates_of;
 use crate::failure::Failure;
 use crate::outcome::{Done, Work};
-use estimate::Estimate;
+use crate::planning::plan_within;
+use estimate::{DualLookup, Estimate, LookAhead};
 use machine::{Dual, follow};
 use std::alloc::{AllocError, Global};
 use text::{Kind, Task};
@@ -30,7 +31,7 @@ pub fn attempt<M: Settable + Dual + Copy, E: Estimate<M> + Copy>(
     Ok(work(heap, start, estimate, task)?)
 }
 
-// Makes the turns, finds the dual, or estimates the turns that are needed.
+// Makes the turns, finds the dual, estimates the turns that are needed, or finds a plan. The search for it asks dual lookup over look-ahead over the estimate.
 pub fn work<M: Dual + Copy, E: Estimate<M> + Copy>(
     heap: Global,
     start: M,
@@ -56,5 +57,14 @@ pub fn work<M: Dual + Copy, E: Estimate<M> + Copy>(
             start,
             done: Done::Estimated(estimates_of(&start, estimate)),
         }),
+        Task::Plan(limit) => {
+            let look_ahead = LookAhead { below: estimate };
+            let dual_lookup = DualLookup { below: look_ahead };
+            let planned = plan_within(heap, start, dual_lookup, limit)?;
+            Ok(Work {
+                start,
+                done: Done::Planned(limit, planned),
+            })
+        }
     }
 }

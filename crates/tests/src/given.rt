@@ -1,3 +1,5 @@
+use estimate::{DualLookup, LookAhead};
+use gaps::Gaps;
 use machine::Fault;
 use ring::TrayRing;
 use std::process::Abort;
@@ -5,6 +7,11 @@ use std::test::*;
 use task::Estimates;
 use towers::{Tower, TowerTray};
 use trays::{Settable, Setup};
+
+// Dual lookup over look-ahead over gaps.
+pub(crate) const PILED: DualLookup<LookAhead<Gaps>> = DualLookup {
+    below: LookAhead { below: Gaps },
+};
 
 // These numbers as tray bytes, with 0 after the last.
 fn tray_bytes<I: Iterator<Item = u8> + Drop>(numbers: I) -> [u8; 32]

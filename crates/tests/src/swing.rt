@@ -3,8 +3,10 @@ ghost use Rattle.std.proofs.Common.{le_refl, le_trans, le-add_right};
 ghost use Rattle.std.proofs.lemmas.Bool.{false≢true};
 ghost use Rattle.estimate.specs.Laws.{consistent_admissible};
 
+use crate::desk::Desk;
 use estimate::{Estimate, LookAhead};
 use machine::{Fault, Machine, TurnRange};
+use planner::{Answer, Call};
 use std::process::Abort;
 use std::test::*;
 
@@ -110,4 +112,63 @@ fn at_most_250(rt: HostRuntime) {
     check_ahead(&rt, 1, 249, 249, 250);
     check_ahead(&rt, 1, 250, 250, 250);
     check_ahead(&rt, 250, 250, 250, 250);
+}
+
+// There is no plan for this machine within the limit, after so many looks.
+fn check_none(
+    rt: &(impl Abort + AllocGlobal),
+    machine: Swing,
+    limit: u8,
+    looks: u32,
+) -> Result<(), Fail> {
+    let mut desk = Desk::new(rt.alloc(), machine, Numbered)?;
+    desk.find_none(rt, machine, limit, looks);
+    Ok(())
+}
+
+// A machine of these turns with the number 0.
+fn zeros(highest: u8) -> Swing
+    requires { highest ≤ 250 }
+{
+    Swing {
+        highest,
+        here: 0,
+        there: 0,
+    }
+}
+
+#[test]
+fn no_plan_without_turns(rt: HostRuntime) -> Result<(), Fail> {
+    for number in 0..=250 {
+        let machine = Swing {
+            highest: 0,
+            here: number,
+            there: number,
+        };
+        check_none(&rt, machine, 64, 1)?;
+    }
+    Ok(())
+}
+
+// A round with the threshold t looks at the start and, with two turns, at t + 1 states on both ways. With one turn it looks at one state more, from which no other turn leads on: the second round cuts nothing and is the last.
+#[test]
+fn no_plan_within_each_limit(rt: HostRuntime) -> Result<(), Fail> {
+    for limit in 0..=64 {
+        let rounds = u32::from(limit) + 1;
+        check_none(&rt, zeros(1), limit, 2 * rounds.min(2))?;
+        check_none(&rt, zeros(2), limit, rounds * (rounds + 2))?;
+    }
+    Ok(())
+}
+
+// With three turns each round looks at about twice as many states as the one before, and there are 65 rounds.
+#[test]
+fn highest_grant(rt: HostRuntime) -> Result<(), Fail> {
+    let machine = zeros(3);
+    let mut desk = Desk::new(rt.alloc(), machine, Numbered)?;
+    desk.load(&rt, machine, 64);
+    desk.ask(&rt, Call::Work(1_000_000), Answer::Working(1_000_000));
+    desk.refuse(&rt, Call::Work(1_000_001), planner::Fault::Grant);
+    desk.ask(&rt, Call::Work(1), Answer::Working(1_000_001));
+    Ok(())
 }

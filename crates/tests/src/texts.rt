@@ -62,6 +62,7 @@ fn check_turns(rt: &impl Abort, q: &Request, turns: &[u8]) -> Result<(), Fail> {
         }
         Task::Dual => Err(Fail::new("the dual")),
         Task::Estimate => Err(Fail::new("an estimate")),
+        Task::Plan(_) => Err(Fail::new("a plan")),
     }
 }
 
@@ -155,9 +156,13 @@ fn what_is_expected(rt: HostRuntime) -> Result<(), Fail> {
     check_told(
         &rt,
         Expected::Tray,
-        "a tray (0 to 255, or -0 to -127), `count`, `turns`, `dual` or `estimate`",
+        "a tray (0 to 255, or -0 to -127), `count`, `turns`, `dual`, `estimate` or `plan`",
     )?;
-    check_told(&rt, Expected::TaskWord, "`turns`, `dual` or `estimate`")
+    check_told(
+        &rt,
+        Expected::TaskWord,
+        "`turns`, `dual`, `estimate` or `plan`",
+    )
 }
 
 fn check_failure(

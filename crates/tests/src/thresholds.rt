@@ -1,5 +1,5 @@
-use crate::given::{home, ring, tower};
-use estimate::{DualLookup, Estimate, LookAhead};
+use crate::given::{PILED, home, ring, tower};
+use estimate::Estimate;
 use gaps::{Breakpoints, Gaps, HalfGaps};
 use machine::Machine;
 use ring::TrayRing;
@@ -28,13 +28,10 @@ fn check_first<M: Machine, E: Estimate<M>>(
 
 #[test]
 fn within_each_limit(rt: HostRuntime) -> Result<(), Fail> {
-    let piled = DualLookup {
-        below: LookAhead { below: Gaps },
-    };
     let t = tower::<u8>(3, &[1, 3, 2])?;
     check_first(&rt, &t, &Gaps, 2);
-    check_first(&rt, &t, &piled, 3);
-    check_first(&rt, &home::<PlainTower>(32, ())?, &piled, 0);
+    check_first(&rt, &t, &PILED, 3);
+    check_first(&rt, &home::<PlainTower>(32, ())?, &PILED, 0);
     check_first(&rt, &tower::<SidedTray>(3, &[3, 129, 2])?, &Breakpoints, 3);
     check_first(&rt, &ring(4, 2, &[2, 1, 3, 4])?, &HalfGaps, 1);
     check_first(&rt, &home::<TrayRing>(32, 32)?, &HalfGaps, 0);

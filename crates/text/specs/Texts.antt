@@ -1,15 +1,17 @@
 use Rattle.std.specs.Prelude.{ℕ, List, codes}
 use Rattle.text.specs.declared.request.Expected.{Expected}
-use Rattle.text.specs.declared.request.Expected.TheVariants.{Kind, Tray, RingTray, CountNumber, SpanWord, SpanNumber, TaskWord, Turn, End}
+use Rattle.text.specs.declared.request.Expected.TheVariants.{Kind, Tray, RingTray, CountNumber, SpanWord, SpanNumber, TaskWord, Turn, LimitWord, LimitNumber, End}
 
 -- How what is expected is told.
 abbrev pub expected_text : Expected → List ℕ
 expected_text Kind = codes "`plain`, `sided` or `ring`"
-expected_text Tray = codes "a tray (0 to 255, or -0 to -127), `count`, `turns`, `dual` or `estimate`"
+expected_text Tray = codes "a tray (0 to 255, or -0 to -127), `count`, `turns`, `dual`, `estimate` or `plan`"
 expected_text RingTray = codes "a tray (0 to 255, or -0 to -127), `count` or `span`"
 expected_text CountNumber = codes "the number of trays, from 0 to 255"
 expected_text SpanWord = codes "`span`"
 expected_text SpanNumber = codes "the span, from 0 to 255"
-expected_text TaskWord = codes "`turns`, `dual` or `estimate`"
+expected_text TaskWord = codes "`turns`, `dual`, `estimate` or `plan`"
 expected_text Turn = codes "a turn number from 0 to 255"
+expected_text LimitWord = codes "`limit` or the end of the line"
+expected_text LimitNumber = codes "the limit, from 0 to 255"
 expected_text End = codes "the end of the line"

@@ -5,7 +5,7 @@ use Rattle.std.specs.Str.{NoCharPasses, EmptyOrStartsWithPassing}
 use Rattle.text.specs.declared.word.Kind.{Kind}
 use Rattle.text.specs.declared.word.Kind.TheVariants.{Plain, Sided, Ring}
 use Rattle.text.specs.declared.word.Word.{Word}
-use Rattle.text.specs.declared.word.Word.TheVariants.{Kind as Machine, Count, Span, Turns, Dual, Estimate, Number, Away, Other}
+use Rattle.text.specs.declared.word.Word.TheVariants.{Kind as Machine, Count, Span, Turns, Dual, Estimate, Plan, Limit, Number, Away, Other}
 
 -- decimal digits, after a plus sign or none, that write n, a number from 0 to 255
 abbrev pub IsNumber : List ℕ → ℕ → Type 0
@@ -33,6 +33,8 @@ Spells bs Span = bs ≡ codes "span"
 Spells bs Turns = bs ≡ codes "turns"
 Spells bs Dual = bs ≡ codes "dual"
 Spells bs Estimate = bs ≡ codes "estimate"
+Spells bs Plan = bs ≡ codes "plan"
+Spells bs Limit = bs ≡ codes "limit"
 Spells bs (Number n) = IsNumber bs n
 Spells bs (Away n) = IsAway bs n
 Spells bs Other =
@@ -44,6 +46,8 @@ Spells bs Other =
     × (bs ≢ codes "turns")
     × (bs ≢ codes "dual")
     × (bs ≢ codes "estimate")
+    × (bs ≢ codes "plan")
+    × (bs ≢ codes "limit")
     × ((n : ℕ) → ¬ IsNumber bs n)
     × ((n : ℕ) → ¬ IsAway bs n)
 

@@ -4,7 +4,7 @@ ghost use Rattle.text.specs.declared.word.Word.TheVariants.{Away, Number};
 ghost use Rattle.text.specs.Lines.{Misreads, may_end, may_stand};
 ghost use Rattle.text.specs.Readers.{Asks, Begins, IsRead, Refuses, Stepped, after_count, after_kind};
 
-use crate::request::{Expected, Misread, Request, Task};
+use crate::request::{Expected, Misread, Request, Task, UNWRITTEN_LIMIT};
 use crate::word::{Kind, Word};
 use std::alloc::{AllocError, Global};
 
@@ -66,6 +66,11 @@ impl Reader {
             Word::Turns => self.expected = Expected::Turn,
             Word::Dual => self.end_with(Task::Dual),
             Word::Estimate => self.end_with(Task::Estimate),
+            Word::Plan => {
+                self.task = Task::Plan(UNWRITTEN_LIMIT);
+                self.expected = Expected::LimitWord;
+            }
+            Word::Limit => self.expected = Expected::LimitNumber,
             Word::Number(n) => self.take(n)?,
             Word::Away(n) => self.take_away(n)?,
             Word::Other => unreachable!(),
@@ -97,6 +102,7 @@ impl Reader {
                 self.expected = Expected::TaskWord;
             }
             Expected::Turn => self.take_turn(n)?,
+            Expected::LimitNumber => self.end_with(Task::Plan(n)),
             _ => unreachable!(),
         }
         Ok(())
@@ -154,10 +160,11 @@ impl Expected {
             Word::Kind(_) => matches!(self, Expected::Kind),
             Word::Count => matches!(self, Expected::Tray | Expected::RingTray),
             Word::Span => matches!(self, Expected::RingTray | Expected::SpanWord),
-            Word::Turns | Word::Dual | Word::Estimate => matches!(
+            Word::Turns | Word::Dual | Word::Estimate | Word::Plan => matches!(
                 self,
                 Expected::Tray | Expected::TaskWord
             ),
+            Word::Limit => matches!(self, Expected::LimitWord),
             Word::Number(_) => matches!(
                 self,
                 Expected::Tray
@@ -165,6 +172,7 @@ impl Expected {
                     | Expected::CountNumber
                     | Expected::SpanNumber
                     | Expected::Turn
+                    | Expected::LimitNumber
             ),
             Word::Away(n) => n < 128 && matches!(self, Expected::Tray | Expected::RingTray),
             Word::Other => false,
@@ -175,7 +183,7 @@ impl Expected {
     fn may_end(self) -> bool
         ensures { result ≡ may_end self }
     {
-        matches!(self, Expected::Turn | Expected::End)
+        matches!(self, Expected::Turn | Expected::LimitWord | Expected::End)
     }
 
     // What is expected after the kind.

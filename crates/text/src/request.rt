@@ -47,14 +47,19 @@ pub enum Task {
     Dual,
     // estimate the turns that it still needs
     Estimate,
+    // find the fewest turns that bring it home, if no more than this limit do
+    Plan(u8),
 }
+
+// The limit of a plan where a line gives none.
+pub(crate) const UNWRITTEN_LIMIT: u8 = 64;
 
 // What may stand at a place of a line.
 #[derive(Clone, Copy, PartialEq, Eq, Debug)]
 pub enum Expected {
     // the kind of machine
     Kind,
-    // a tray of a tower, `count`, `turns`, `dual` or `estimate`
+    // a tray of a tower, `count`, `turns`, `dual`, `estimate` or `plan`
     Tray,
     // a tray of a ring, `count` or `span`
     RingTray,
@@ -64,10 +69,14 @@ pub enum Expected {
     SpanWord,
     // the number after `span`
     SpanNumber,
-    // `turns`, `dual` or `estimate`
+    // `turns`, `dual`, `estimate` or `plan`
     TaskWord,
     // a turn, or the end of the line
     Turn,
+    // `limit`, or the end of the line
+    LimitWord,
+    // the number after `limit`
+    LimitNumber,
     // the end of the line
     End,
 }
@@ -79,13 +88,15 @@ impl fmt::Display for Expected {
         f.write_str(match self {
             Expected::Kind => "`plain`, `sided` or `ring`",
             Expected::Tray =>
-                "a tray (0 to 255, or -0 to -127), `count`, `turns`, `dual` or `estimate`",
+                "a tray (0 to 255, or -0 to -127), `count`, `turns`, `dual`, `estimate` or `plan`",
             Expected::RingTray => "a tray (0 to 255, or -0 to -127), `count` or `span`",
             Expected::CountNumber => "the number of trays, from 0 to 255",
             Expected::SpanWord => "`span`",
             Expected::SpanNumber => "the span, from 0 to 255",
-            Expected::TaskWord => "`turns`, `dual` or `estimate`",
+            Expected::TaskWord => "`turns`, `dual`, `estimate` or `plan`",
             Expected::Turn => "a turn number from 0 to 255",
+            Expected::LimitWord => "`limit` or the end of the line",
+            Expected::LimitNumber => "the limit, from 0 to 255",
             Expected::End => "the end of the line",
         })
     }

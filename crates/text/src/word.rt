@@ -32,6 +32,8 @@ pub enum Word {
     Turns,
     Dual,
     Estimate,
+    Plan,
+    Limit,
     // a decimal number from 0 to 255
     Number(u8),
     // a minus sign and a decimal number from 0 to 127
@@ -54,6 +56,8 @@ impl From<&str> for Word {
             "turns" => Word::Turns,
             "dual" => Word::Dual,
             "estimate" => Word::Estimate,
+            "plan" => Word::Plan,
+            "limit" => Word::Limit,
             _ => match text.parse() {
                 Ok(n) => Word::Number(n),
                 Err(_) => away(text).map_or(Word::Other, Word::Away),

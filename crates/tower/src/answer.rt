@@ -1,9 +1,10 @@
-use crate::shown::{Listed, Refusal, count_name};
+use crate::shown::{Counted, Listed, Refusal, count_name};
 use anyhow::bail;
 use machine::{Ending, Trace};
+use planner::HIGHEST_LIMIT;
 use std::fmt::Display;
 use std::io;
-use task::{Done, Estimates, Failure, Outcome, Work, perform};
+use task::{Done, Estimates, Failure, Outcome, Planned, Work, perform};
 use text::{Expected, Kind};
 use trays::Settable;
 
@@ -49,6 +50,7 @@ where
         Done::Followed(turns, trace) => show_turns(rt, kind, turns, trace),
         Done::Mirrored(dual) => println!(rt; "dual:{}", Listed(dual.trays())),
         Done::Estimated(estimates) => show_estimates(rt, kind, estimates),
+        Done::Planned(limit, planned) => show_plan(rt, *limit, planned),
     }
 }
 
@@ -74,19 +76,53 @@ fn show_turns<M: Settable>(
 where
     M::Tray: Display,
 {
-    for (k, state) in turns.iter().zip(&trace.states) {
-        println!(rt; "turn {k}:{}", Listed(state.trays()))?;
-    }
+    show_states(rt, turns, trace)?;
     let made = trace.states.len();
-    let noun = if made == 1 { "turn" } else { "turns" };
     match trace.ending {
-        Ending::Home => println!(rt; "home after {made} {noun}"),
-        Ending::NotHome => println!(rt; "not home after {made} {noun}"),
+        Ending::Home => println!(rt; "home after {}", Counted(made, "turn")),
+        Ending::NotHome => println!(rt; "not home after {}", Counted(made, "turn")),
         Ending::Refused(fault) => {
             let turn = turns.get(made).copied();
             println!(rt; "{}", Refusal { kind, fault, turn })
         }
     }
+}
+
+// Prints the plan, or why there is none. The limit is all that is refused of a search.
+fn show_plan<M: Settable>(rt: &HostRuntime, limit: u8, planned: &Planned<M>) -> io::Result<()>
+where
+    M::Tray: Display,
+{
+    match planned {
+        Planned::Refused(fault) => {
+            let number = fault.number();
+            println!(rt; "refused {number}: the limit is above {HIGHEST_LIMIT}")
+        }
+        Planned::Found(turns, trace, looks) => {
+            let turn_count = Counted(turns.len(), "turn");
+            println!(rt; "plan of {turn_count} after {}", Counted(*looks, "look"))?;
+            show_states(rt, turns, trace)
+        }
+        Planned::NoPlan(looks) => {
+            let turn_count = Counted(limit, "turn");
+            println!(rt;
+                "no plan within {turn_count} after {}",
+                Counted(*looks, "look")
+            )
+        }
+        Planned::Unfinished(looks) => println!(rt; "no end after {}", Counted(*looks, "look")),
+    }
+}
+
+// Prints the turns that were made, with the trays after each.
+fn show_states<M: Settable>(rt: &HostRuntime, turns: &[u8], trace: &Trace<M>) -> io::Result<()>
+where
+    M::Tray: Display,
+{
+    for (k, state) in turns.iter().zip(&trace.states) {
+        println!(rt; "turn {k}:{}", Listed(state.trays()))?;
+    }
+    Ok(())
 }
 
 // Says where a line is not understood, and what was expected there.

@@ -1,0 +1,67 @@
+use Rattle.std.specs.Prelude.{ℕ, ◌+◌, ◌||◌, if◌then◌else◌, nat_lt, ◌==◌, Some, None, Option}
+use Rattle.machine.specs.Meaning.{Meaning}
+use Rattle.search.specs.Search.{Search, search}
+use Rattle.planner.specs.declared.call.Call.{Call}
+use Rattle.planner.specs.declared.call.Call.TheVariants.{Load, Work, Fetch, Drop}
+use Rattle.planner.specs.declared.fault.Fault.{Fault}
+use Rattle.planner.specs.declared.fault.Fault.TheVariants as fault
+use Rattle.planner.specs.declared.phase.Phase.{Phase}
+use Rattle.planner.specs.declared.phase.Phase.TheVariants as phase
+
+-- Which calls are accepted, and what a planner is doing, by the calls alone.
+
+-- The call on a machine, as one on the state that the machine is in.
+abbrev pub on_state : {S M : Type 0} → (M → S) → Call M → Call S
+on_state state (Load x limit) = Load (state x) limit
+on_state state (Work grant) = Work grant
+on_state state Fetch = Fetch
+on_state state Drop = Drop
+
+-- The first refusal that applies to a call, by what the planner is doing and the grants since the load.
+abbrev pub refusal : {S : Type 0} → Phase → ℕ → Call S → Option Fault
+refusal phase.AtWork granted (Load s limit) = if nat_lt 64 limit then Some fault.Limit else Some fault.AtWork
+refusal doing granted (Load s limit) = if nat_lt 64 limit then Some fault.Limit else None
+refusal phase.AtWork granted (Work grant) =
+    if (grant == 0) || nat_lt 1000000 grant then Some fault.Grant
+    else (if nat_lt 2000000000 (granted + grant) then Some fault.GrantSum else None)
+refusal doing granted (Work grant) = Some fault.NoTask
+refusal phase.Found granted Fetch = None
+refusal doing granted Fetch = Some fault.NotFound
+refusal phase.AtWork granted Drop = None
+refusal doing granted Drop = Some fault.NothingToDrop
+
+-- What the latest accepted load handed over, and the sum of the grants accepted since.
+pub record Task (S : Type 0) : Type 0 where
+  pub start : S
+  pub limit : ℕ
+  pub granted : ℕ
+
+-- The task after a call that is accepted; none at first, and after a drop.
+abbrev pub accept : {S : Type 0} → Option (Task S) → Call S → Option (Task S)
+accept task (Load s limit) = Some (record { start = s; limit = limit; granted = 0 })
+accept None (Work grant) = None
+accept (Some t) (Work grant) = Some (record { start = t.start; limit = t.limit; granted = t.granted + grant })
+accept task Fetch = task
+accept task Drop = None
+
+module _ {S : Type 0} (m : Meaning S) (e : S → ℕ) where
+  -- The whole search of a task.
+  abbrev pub search_of : Task S → Search
+  search_of t = search m e t.limit t.start
+
+  -- What a planner is doing with a task: its search has ended once the grants come to all its looks or more.
+  abbrev pub doing : Option (Task S) → Phase
+  doing None = phase.Empty
+  doing (Some t) =
+      if nat_lt t.granted (search_of t).looks then phase.AtWork
+      else elim (search_of t).plan [ None ↦ phase.OutOfPlans | Some p ↦ phase.Found ]
+
+  abbrev pub granted_to : Option (Task S) → ℕ
+  granted_to None = 0
+  granted_to (Some t) = t.granted
+
+  abbrev pub refused : Option (Task S) → Call S → Option Fault
+  refused task call = refusal (doing task) (granted_to task) call
+
+  abbrev pub after : Option (Task S) → Call S → Option (Task S)
+  after task call = elim (refused task call) [ None ↦ accept task call | Some f ↦ task ]

@@ -1,0 +1,6 @@
+pub mod Calls
+pub mod Holds
+pub mod Promise
+pub mod ToCome
+pub mod Told
+pub mod UnderWay

@@ -1,0 +1,26 @@
+use Rattle.std.specs.Prelude.{◌≡◌, ℕ, ◌<◌, ◌≤◌, List, map, vec_items, Some}
+use Rattle.machine.specs.Follows.{Follows}
+use Rattle.machine.specs.Meaning.{Meaning}
+use Rattle.machine.specs.declared.trace.Ending.TheVariants.{Home}
+use Rattle.machine.specs.declared.trace.Trace.{Trace}
+use Rattle.planner.specs.declared.fault.Fault.TheVariants.{Limit}
+use Rattle.search.specs.Search.{search}
+use Rattle.search.specs.Shortest.{Shortest, AllLonger}
+use Rattle.task.specs.declared.outcome.Planned.{Planned}
+use Rattle.task.specs.declared.outcome.Planned.TheVariants.{Refused, Found, NoPlan, Unfinished}
+
+-- What comes of the search by the estimate e for a plan from a state, within a limit.
+module _ {S M : Type 0} (m : Meaning S) (e : S → ℕ) (state : M → S) (limit : ℕ) (s : S) where
+  -- These turns are a shortest plan, and the one that the search finds; they lead through these states and end at home.
+  pub record FoundPlan (turns : List ℕ) (trace : Trace M) (looks : ℕ) : Type 0 where
+    pub shortest : Shortest m limit s turns
+    pub searched : (search m e limit s).plan ≡ Some turns
+    pub all_looks : looks ≡ (search m e limit s).looks
+    pub followed : Follows m s turns (map state (vec_items trace.states)) trace.ending
+    pub ends_home : trace.ending ≡ Home
+
+  abbrev pub Plans : Planned M → Type 0
+  Plans (Refused fault) = (fault ≡ Limit) × (64 < limit)
+  Plans (Found turns trace looks) = (limit ≤ 64) × FoundPlan (vec_items turns) trace looks
+  Plans (NoPlan looks) = (limit ≤ 64) × AllLonger m limit s × (looks ≡ (search m e limit s).looks)
+  Plans (Unfinished looks) = (limit ≤ 64) × (looks ≡ 2000000000) × (2000000000 < (search m e limit s).looks)

@@ -1,0 +1,5 @@
+pub mod Back
+pub mod Nexts
+pub mod Ranges
+pub mod Trails
+pub mod Writing
