@@ -21,7 +21,7 @@ module _ {S : Type 0} (m : Meaning S) (e : S → ℕ) where
     -- the looks made are the grants, or all the looks of the search if they are fewer
     pub looks : (told a).looks ≡ Some (min t.granted (search_of m e t).looks)
     -- else "none" exactly when every list that brings the machine home has more turns than the limit
-    pub none : (IsWorking a → ⊥) → IsNone a ↔ AllLonger m t.limit t.start
+    pub none : (IsWorking a → ⊥) → (IsNone a ↔ AllLonger m t.limit t.start)
     -- else "found", with the length of the plan
     pub found : (IsWorking a → ⊥) → (IsNone a → ⊥) → (p : List ℕ) × (n : ℕ) × ((search_of m e t).plan ≡ Some p) × (a ≡ Found (length p) n)
 

@@ -1,4 +1,4 @@
-ghost use Rattle.std.specs.Prelude.{◌≡◌, ℕ, ◌+◌, ◌≤◌, ◌<◌, List, length, reverse, take, None, Some, Option, IfOk, IfErr};
+ghost use Rattle.std.specs.Prelude.{◌≡◌, ℕ, ◌+◌, ◌≤◌, ◌<◌, List, length, reverse, take, None, Option, IfOk, IfErr};
 ghost use Rattle.planner.specs.Calls.{Task, on_state};
 ghost use Rattle.planner.specs.declared.answer.Answer.TheVariants.{Accepted, Fetched};
 ghost use Rattle.planner.specs.declared.call.Call.TheVariants.{Work};
@@ -16,6 +16,7 @@ use machine::Machine;
 use std::alloc::{AllocError, Global};
 use walk::Sheet;
 
+// The limit of a load, the looks of one grant, and those of all grants since a load are at most these.
 pub const HIGHEST_LIMIT: u8 = 64;
 
 pub const MOST_AT_ONCE: u32 = 1_000_000;
@@ -64,7 +65,13 @@ impl<M: Machine + Drop, E: Estimate<M> + Drop> Planner<M, E> {
             (_, Call::Load(_, limit)) if limit > HIGHEST_LIMIT => Err(Fault::Limit),
             (Phase::AtWork, Call::Load(_, _)) => Err(Fault::AtWork),
             (_, Call::Load(machine, limit)) => Ok(self.load(machine, limit)),
-            (Phase::AtWork, Call::Work(grant)) => self.work(grant),
+            (Phase::AtWork, Call::Work(grant)) if grant == 0 || grant > MOST_AT_ONCE => {
+                Err(Fault::Grant)
+            }
+            (Phase::AtWork, Call::Work(grant)) if self.granted + grant > MOST_GRANTED => {
+                Err(Fault::GrantSum)
+            }
+            (Phase::AtWork, Call::Work(grant)) => Ok(self.work(grant)),
             (_, Call::Work(_)) => Err(Fault::NoTask),
             (Phase::Found, Call::Fetch) => Ok(self.fetch(sheet)),
             (_, Call::Fetch) => Err(Fault::NotFound),
@@ -86,23 +93,19 @@ impl<M: Machine + Drop, E: Estimate<M> + Drop> Planner<M, E> {
         Answer::Accepted
     }
 
-    fn work(&mut self, grant: u32) -> Result<Answer, Fault>
+    fn work(&mut self, grant: u32) -> Answer
+        requires some { 1 ≤ grant }
+        requires few { grant ≤ 1000000 }
+        requires fits { self.old.granted + grant ≤ 2000000000 }
         ensures answers { (task : Option (Task M.State)) (sheet : List ℕ) →
             self.old.phase ≡ AtWork →
             Holds M.meaning M.state (E.value self.old.estimate) task self.old →
-            Answers M.meaning M.state (E.value self.old.estimate) task (Work grant) sheet result sheet self.new }
-        ensures refused { IfErr result (λ _. self.new ≡ self.old) }
+            Answers M.meaning M.state (E.value self.old.estimate) task (Work grant) sheet (Ok result) sheet self.new }
         ensures estimate { self.new.estimate ≡ self.old.estimate }
     {
-        if grant == 0 || grant > MOST_AT_ONCE {
-            return Err(Fault::Grant);
-        }
-        if self.granted + grant > MOST_GRANTED {
-            return Err(Fault::GrantSum);
-        }
         self.granted += grant;
         self.spend();
-        Ok(self.report())
+        self.report()
     }
 
     // Makes the looks that are granted, or fewer where the search ends.

@@ -7,7 +7,7 @@ use estimate::Estimate;
 use machine::Machine;
 use search::first_threshold;
 use std::alloc::{AllocError, Global};
-use walk::{Sheet, Walk};
+use walk::Walk;
 
 // What a look came to.
 #[derive(Clone, Copy, PartialEq, Eq, Debug)]

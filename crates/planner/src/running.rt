@@ -1,4 +1,4 @@
-ghost use Rattle.std.specs.Prelude.{◌≡◌, map, IfOk, None, replicate, vec_items};
+ghost use Rattle.std.specs.Prelude.{map, IfOk, None, replicate};
 ghost use Rattle.planner.specs.Calls.{on_state};
 ghost use Rattle.planner.specs.Promise.{Run};
 

@@ -5,12 +5,12 @@ use Rattle.planner.specs.Holds.{Answers}
 use Rattle.planner.proofs.Replies.{fetched}
 use Rattle.planner.proofs.planning.Planner.answer.Goals as goal
 
-pub returns-in-AtWork-Work-clause-answers : goal.returns-in-AtWork-Work-clause-answers
-returns-in-AtWork-Work-clause-answers g c = λ task x.
+pub returns-in-AtWork-Work-3-clause-answers : goal.returns-in-AtWork-Work-3-clause-answers
+returns-in-AtWork-Work-3-clause-answers g c = λ task x.
     let state = g.M.Machine.state in
     let e = g.E.Estimate.value c.args.self.now.estimate in
     let sheet = c.args.sheet.now in
-    subst (λ call. Answers g.M.Machine.meaning state e task (on_state state call) sheet c.work.result sheet c.work.new.self) (sym c.in-AtWork-Work.is-1)
+    subst (λ call. Answers g.M.Machine.meaning state e task (on_state state call) sheet (Ok c.work.result) sheet c.work.new.self) (sym c.in-AtWork-Work.is-1)
     (c.work.ensures.answers task sheet c.in-AtWork-Work.is-0 x)
 
 pub returns-in-Found-Fetch-clause-answers : goal.returns-in-Found-Fetch-clause-answers
