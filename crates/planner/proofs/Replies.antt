@@ -61,7 +61,7 @@ module _ {S : Type 0} (m : Meaning S) (e : S → ℕ) (t : Task S) (owes : Finds
           working = (λ w. absurd w, λ less. absurd (omega arith));
           looks = ap Some spent;
           none = λ _. (λ n. absurd n, λ longer. absurd (subst IsSome (sym x.plan_is ∙ owes.none.1 longer) tt));
-          found = λ _ _. (reverse (made p.walk), looks, x.plan_is, ap (λ n. Found n looks) (sym (length-reverse (made p.walk))));
+          found = λ _ _. (reverse (made p.walk), x.plan_is, ap₂ Found (sym (length-reverse (made p.walk))) spent);
         }
     granted_is phase.OutOfPlans is spent x =
         let all = x.all_made in

@@ -1,4 +1,4 @@
-use Rattle.std.specs.Prelude.{ℕ, ◌+◌, ◌||◌, if◌then◌else◌, nat_lt, ◌==◌, Some, None, Option}
+use Rattle.std.specs.Prelude.{ℕ, Bool, true, false, ◌+◌, ◌||◌, if◌then◌else◌, nat_lt, ◌==◌, Some, None, Option}
 use Rattle.machine.specs.Meaning.{Meaning}
 use Rattle.search.specs.Search.{Search, search}
 use Rattle.planner.specs.declared.call.Call.{Call}
@@ -16,6 +16,10 @@ on_state state (Load x limit) = Load (state x) limit
 on_state state (Work grant) = Work grant
 on_state state Fetch = Fetch
 on_state state Drop = Drop
+
+abbrev pub at_work : Phase → Bool
+at_work phase.AtWork = true
+at_work doing = false
 
 -- The first refusal that applies to a call, by what the planner is doing and the grants since the load.
 abbrev pub refusal : {S : Type 0} → Phase → ℕ → Call S → Option Fault

@@ -2,7 +2,7 @@ use Rattle.std.specs.Prelude.{◌≡◌, ⊤, ℕ, ◌+◌, ◌<◌, ◌↔◌, 
 use Rattle.machine.specs.Meaning.{Meaning}
 use Rattle.search.specs.Shortest.{Shortest, AllLonger}
 use Rattle.walk.specs.Sheets.{padded}
-use Rattle.planner.specs.Told.{IsWorking, IsNone, told}
+use Rattle.planner.specs.Told.{IsWorking, IsNoPlan, told}
 use Rattle.planner.specs.Calls.{Task, search_of, refused, after}
 use Rattle.planner.specs.declared.answer.Answer.{Answer}
 use Rattle.planner.specs.declared.answer.Answer.TheVariants.{Accepted, Found, Fetched}
@@ -21,9 +21,9 @@ module _ {S : Type 0} (m : Meaning S) (e : S → ℕ) where
     -- the looks made are the grants, or all the looks of the search if they are fewer
     pub looks : (told a).looks ≡ Some (min t.granted (search_of m e t).looks)
     -- else "none" exactly when every list that brings the machine home has more turns than the limit
-    pub none : (IsWorking a → ⊥) → (IsNone a ↔ AllLonger m t.limit t.start)
+    pub none : (IsWorking a → ⊥) → (IsNoPlan a ↔ AllLonger m t.limit t.start)
     -- else "found", with the length of the plan
-    pub found : (IsWorking a → ⊥) → (IsNone a → ⊥) → (p : List ℕ) × (n : ℕ) × ((search_of m e t).plan ≡ Some p) × (a ≡ Found (length p) n)
+    pub found : (IsWorking a → ⊥) → (IsNoPlan a → ⊥) → (p : List ℕ) × ((search_of m e t).plan ≡ Some p) × (a ≡ Found (length p) (min t.granted (search_of m e t).looks))
 
   -- What a fetch answers and writes.
   pub record Yields (t : Task S) (a : Answer) (sheet : List ℕ) : Type 0 where

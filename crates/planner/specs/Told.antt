@@ -20,9 +20,9 @@ abbrev pub IsWorking : Answer → Type 0
 IsWorking (Working looks) = ⊤
 IsWorking a = ⊥
 
-abbrev pub IsNone : Answer → Type 0
-IsNone (NoPlan looks) = ⊤
-IsNone a = ⊥
+abbrev pub IsNoPlan : Answer → Type 0
+IsNoPlan (NoPlan looks) = ⊤
+IsNoPlan a = ⊥
 
 -- The number of each refusal.
 abbrev pub refusal_number : Fault → ℕ

@@ -1,5 +1,5 @@
 ghost use Rattle.std.specs.Prelude.{◌≡◌, ℕ, ◌+◌, ◌≤◌, ◌<◌, List, length, reverse, take, None, Option, IfOk, IfErr};
-ghost use Rattle.planner.specs.Calls.{Task, on_state};
+ghost use Rattle.planner.specs.Calls.{Task, at_work, doing, on_state};
 ghost use Rattle.planner.specs.declared.answer.Answer.TheVariants.{Accepted, Fetched};
 ghost use Rattle.planner.specs.declared.call.Call.TheVariants.{Work};
 ghost use Rattle.planner.specs.declared.phase.Phase.TheVariants.{AtWork, Empty};
@@ -78,6 +78,15 @@ impl<M: Machine + Drop, E: Estimate<M> + Drop> Planner<M, E> {
             (Phase::AtWork, Call::Drop) => Ok(self.drop_task()),
             (_, Call::Drop) => Err(Fault::NothingToDrop),
         }
+    }
+
+    // Whether a task is at work.
+    pub fn is_at_work(&self) -> bool
+        ensures { (task : Option (Task M.State)) →
+            Holds M.meaning M.state (E.value (estimate_of self.now)) task self.now →
+            result ≡ at_work (doing M.meaning (E.value (estimate_of self.now)) task) }
+    {
+        self.phase == Phase::AtWork
     }
 
     fn load(&mut self, machine: M, limit: u8) -> Answer

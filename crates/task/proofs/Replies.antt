@@ -87,8 +87,8 @@ module _ {S : Type 0} (m : Meaning S) (e : S → ℕ) where
       let made : looks ≡ min (t.granted + 1000000) (search_of m e t).looks = cc (g.looks) in
       let all = all_told t g.working.1 in
       let found = g.found (λ w. w) (λ w. w) in
-      let long : n ≡ length found.0 = cc (found.3) in
-      (record { all_granted = all; all_made = omega arith }, (found.0, long, found.2))
+      let long : n ≡ length found.0 = cc (found.2) in
+      (record { all_granted = all; all_made = omega arith }, (found.0, long, found.1))
   told_more t v old new (Ok (answer.NoPlan looks)) h =
       let g = h.0 in
       let made : looks ≡ min (t.granted + 1000000) (search_of m e t).looks = cc (g.looks) in

@@ -1,0 +1,6 @@
+pub mod Answers
+pub mod Histories
+pub mod Holds
+pub mod Kinds
+pub mod Loads
+pub mod Tapes

@@ -1,0 +1,47 @@
+ghost use Rattle.std.specs.Prelude.{◌≡◌, Option, IfErr, replicate};
+ghost use Rattle.planner.specs.Calls.{Task};
+ghost use Rattle.planner.specs.Holds.{Holds, estimate_of};
+ghost use Rattle.console.specs.Answers.{Asked, call_of};
+
+use estimate::Estimate;
+use machine::Machine;
+use planner::{Answer, Call, Planner, Sheet};
+use tape::Fault;
+
+// A call that hands over no machine.
+#[derive(Clone, Copy, PartialEq, Eq, Debug)]
+pub(crate) enum Ask {
+    Work(u32),
+    Fetch,
+    Drop,
+}
+
+impl Ask {
+    // The call of a planner over any machine.
+    fn call<M>(self) -> Call<M>
+        ensures { result ≡ call_of self }
+    {
+        match self {
+            Ask::Work(grant) => Call::Work(grant),
+            Ask::Fetch => Call::Fetch,
+            Ask::Drop => Call::Drop,
+        }
+    }
+}
+
+// Makes this call, with the planner's fault in the console's.
+pub(crate) fn ask_planner<M: Machine + Drop, E: Estimate<M> + Drop>(
+    planner: &mut Planner<M, E>,
+    ask: Ask,
+    sheet: &mut Sheet,
+) -> Result<Answer, Fault>
+    requires { sheet.old ≡ replicate 64 0 }
+    ensures asked { (task : Option (Task M.State)) →
+        Holds M.meaning M.state (E.value (estimate_of planner.old)) task planner.old →
+        (next : Option (Task M.State))
+        × Asked M.meaning (E.value (estimate_of planner.old)) task (call_of ask) result sheet.new next
+        × Holds M.meaning M.state (E.value (estimate_of planner.old)) next planner.new }
+    ensures refused { IfErr result (λ _. planner.new ≡ planner.old) }
+{
+    Ok(planner.answer(ask.call(), sheet)?)
+}
