@@ -26,7 +26,7 @@ use Rattle.console.specs.Answers.{Answered, AskedOf, call_of, in_ring, in_tower,
 use Rattle.console.specs.Histories.{History, busy}
 use Rattle.console.specs.Kinds.{plain, sided, ring, plain_estimate, sided_estimate, ring_estimate}
 use Rattle.console.specs.Loads.{Loads}
-use Rattle.console.specs.Tapes.{After, ComesOf, LongAlike, OneReply, Step, placed_reply}
+use Rattle.console.specs.Tapes.{After, ComesOf, LongAlike, OneReply, OneStep, Step, placed_reply}
 use Rattle.console.proofs.Askings.{asked_once}
 use Rattle.console.proofs.Loadings.{accepted_load, loads_once}
 use Rattle.console.proofs.Readings.{SameCommand, SameReading, reads_once}
@@ -123,7 +123,7 @@ comes_once tape place h (Err f) (Err g) e xs ys p q a b x y =
     (x.0 ∙ ap (λ f. refusal_bytes (record { fault = f; place = place })) e ∙ sym y.0, x.1 ∙ sym y.1, x.2 ∙ sym y.2)
 comes_once tape place h m n e xs ys p q a b x y = absurd e
 
-step_once : (tape : List ℕ) (place : ℕ) (h : History) (xs ys : List ℕ) (p q : ℕ) (a b : History) → Step tape place h xs p a → Step tape place h ys q b → SameStep xs ys p q a b
+pub step_once : OneStep
 step_once tape place h xs ys p q a b x y = comes_once tape place h x.read y.read (reads_once (drop place tape) x.read y.read x.reads y.reads) xs ys p q a b x.comes y.comes
 
 -- After so many commands the tape is at one place, with one history and one row of replies.

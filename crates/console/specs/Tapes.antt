@@ -44,6 +44,10 @@ pub record Step (tape : List ℕ) (place : ℕ) (h : History) (bytes : List ℕ)
   pub reads : Reads (drop place tape) read
   pub comes : ComesOf tape place h read bytes next after
 
+-- The rules leave no more than one reply, one next place and one history to each place of a tape.
+abbrev pub OneStep : Type 0
+OneStep = (tape : List ℕ) (place : ℕ) (h : History) (bytes others : List ℕ) (next end : ℕ) (after later : History) → Step tape place h bytes next after → Step tape place h others end later → (bytes ≡ others) × (next ≡ end) × (after ≡ later)
+
 -- A call is refused as a whole, with place 0.
 abbrev pub Whole : List ℕ → ℕ → ℕ → Refusal → Type 0
 Whole tape place room r = (call_fault tape place room ≡ Some r.fault) × (r.place ≡ 0)

@@ -2,7 +2,7 @@ ghost use Rattle.std.specs.Prelude.{◌≡◌, ◌+◌, ◌<◌, ◌≤◌, ◌+
 ghost use Rattle.tape.specs.Commands.{width};
 ghost use Rattle.console.specs.Histories.{History};
 ghost use Rattle.console.specs.Holds.{Stands};
-ghost use Rattle.console.specs.Tapes.{Replied, Runs, Step, Whole, call_fault, placed_reply};
+ghost use Rattle.console.specs.Tapes.{OneStep, Replied, Runs, Step, Whole, call_fault, placed_reply};
 
 use crate::planners::Console;
 use planner::Answer;
@@ -21,6 +21,7 @@ pub struct Ran {
 impl Console {
     // Runs the command at this place of the tape and writes its reply; the bytes past it stay. At the tape's end nothing is run. What is refused as a whole changes nothing.
     pub fn run(&mut self, tape: &[u8], place: usize, reply: &mut [u8]) -> Result<Ran, Refusal>
+        ensures one { OneStep }
         ensures runs { (h : History) → Stands h self.old →
             (after : History) × Runs tape.now place h reply.old result reply.new after × Stands after self.new }
         ensures refused { IfErr result (λ _. (self.new ≡ self.old) × (reply.new ≡ reply.old)) }

@@ -1,5 +1,6 @@
 use Rattle.std.proofs.Common.{◌≤◌, length, sym, subst, ◌∙◌, arith}
 use Rattle.std.proofs.Math.ListN.{get_or-append}
+use Rattle.console.proofs.Once.{step_once}
 use Rattle.console.proofs.Staying.{rest_stays}
 use Rattle.console.proofs.planners.Console.run.Goals as goal
 
@@ -12,3 +13,12 @@ returns-in-Some-clause-runs c = λ h s.
 
 pub returns-in-Some-clause-told : goal.returns-in-Some-clause-told
 returns-in-Some-clause-told c = λ is. c.run_at.ensures.refused (sym (get_or-append c.run_at.new.bytes _ 0 0 (let l = c.run_at.ensures.long in omega arith)) ∙ is)
+
+pub returns-in_err-check_place-clause-one : goal.returns-in_err-check_place-clause-one
+returns-in_err-check_place-clause-one c = step_once
+
+pub returns-in-None-clause-one : goal.returns-in-None-clause-one
+returns-in-None-clause-one c = step_once
+
+pub returns-in-Some-clause-one : goal.returns-in-Some-clause-one
+returns-in-Some-clause-one c = step_once
