@@ -3,7 +3,7 @@ ghost use Rattle.planner.specs.Holds.{Holds, estimate_of};
 ghost use Rattle.console.specs.Histories.{History, busy, first};
 ghost use Rattle.console.specs.Holds.{Stands};
 
-use estimate::{DualLookup, Estimate, LookAhead};
+use estimate::{DualLookup, LookAhead, SuccessorEstimate};
 use gaps::{Breakpoints, Gaps, HalfGaps};
 use machine::Dual;
 use planner::Planner;
@@ -51,7 +51,7 @@ impl Console {
 }
 
 // A planner of this kind with no task, over dual lookup over look-ahead over this estimate.
-fn empty_planner<M: Settable + Dual + Copy, E: Estimate<M> + Drop>(
+fn empty_planner<M: Settable + Dual + Copy, E: SuccessorEstimate<M> + Drop>(
     heap: Global,
     estimate: E,
 ) -> Result<Planner<M, DualLookup<LookAhead<E>>>, AllocError>

@@ -7,6 +7,10 @@ use Rattle.machine.specs.Turns.{turns}
 abbrev pub after_each : {S : Type 0} → Meaning S → (S → ℕ) → S → List ℕ
 after_each m e s = map (λ k. e (m.after s k)) (turns m s)
 
+-- The least of them, where there is a turn.
+abbrev pub least_after : {S : Type 0} → Meaning S → (S → ℕ) → S → Option ℕ
+least_after m e s = reduce min (after_each m e s)
+
 -- The greater of the number here and 1 plus the least after one turn, but at most 250; where there is no turn, the number here.
 abbrev pub ahead : ℕ → Option ℕ → ℕ
 ahead here None = here
@@ -14,7 +18,7 @@ ahead here (Some least) = min (max here (1 + least)) 250
 
 -- Look-ahead over the estimate e: 0 at home.
 abbrev pub look_ahead : {S : Type 0} → Meaning S → (S → ℕ) → S → ℕ
-look_ahead m e s = if m.home s then 0 else ahead (e s) (reduce min (after_each m e s))
+look_ahead m e s = if m.home s then 0 else ahead (e s) (least_after m e s)
 
 -- The greater of the numbers of a state and of its dual.
 abbrev pub dual_lookup : {S : Type 0} → (S → S) → (S → ℕ) → S → ℕ

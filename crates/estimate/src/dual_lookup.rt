@@ -2,6 +2,7 @@ ghost use Rattle.estimate.specs.Layers.{dual_lookup};
 ghost use Rattle.estimate.specs.Laws.{dual_lookup_sound};
 
 use crate::interface::Estimate;
+use crate::successors::SuccessorEstimate;
 use machine::Dual;
 
 // The greater of the estimate below on the machine and on its dual.
@@ -20,3 +21,5 @@ impl<M: Dual + Drop, E: Estimate<M>> Estimate<M> for DualLookup<E> {
         here.max(self.below.ask(&machine.dual()))
     }
 }
+
+impl<M: Dual + Copy, E: Estimate<M>> SuccessorEstimate<M> for DualLookup<E> {}

@@ -11,3 +11,7 @@ plate_of {b = b} s trays plate all is = is ∙ ap (λ l. b.form.upright (length 
 -- a ring of n trays holds n
 pub ring_long : (s : TrayRing) → length (take s.arrangement.n s.arrangement.trays) ≡ s.arrangement.n
 ring_long s = held_long s.arrangement
+
+-- a tower of n trays tells n
+pub tower_long : {A : Type 0} {b : Ghosts A} (s : Tower A b) (trays : List A) → trays ≡ take s.arrangement.n s.arrangement.trays → length trays ≡ s.arrangement.n
+tower_long s trays all = ap length all ∙ held_long s.arrangement

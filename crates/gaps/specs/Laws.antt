@@ -11,7 +11,7 @@ use Rattle.std.specs.List.{zip}
 use Rattle.estimate.specs.Meaning.{Consistent, IsEstimate}
 use Rattle.estimate.specs.Laws.{consistent_admissible}
 use Rattle.trays.specs.Form.{TrayForm, number_regular, number_tray, tray_at}
-use Rattle.trays.specs.Run.{place_on}
+use Rattle.trays.specs.Run.{RunReversed, place_on}
 use Rattle.trays.specs.declared.tray.Tray.{Ghosts}
 use Rattle.trays.proofs.Held.{held_long}
 use Rattle.trays.proofs.Neighbours.{Apart, apart_at, on_plate, plate_home, plate_turned, apart_round, ring_turned}
@@ -39,28 +39,34 @@ apart_count-tally apart (x ∷ y ∷ ys) end =
 
 -- Towers.
 
+-- what stands at a place of a tower, or the plate past the last tray
+pub held_at : {A : Type 0} {b : Ghosts A} (s : Tower A b) (i : ℕ) → i ≤ s.arrangement.n → get_or (take s.arrangement.n s.arrangement.trays) i (b.form.upright (s.arrangement.n + 1)) ≡ on_plate b.form s.arrangement.n s.arrangement.trays i
+held_at {b = b} s i le =
+    let n = s.arrangement.n in
+    let xs = s.arrangement.trays in
+    let most = s.arrangement.most in
+    let long = (permuted s).long in
+    let plate = b.form.upright (n + 1) in
+    let first = held_long s.arrangement in
+    ⊎_elim
+    (λ (lt : i < n).
+    get_or-take n xs i plate lt
+    ∙ get_or_default xs i plate (b.form.upright 0) (omega arith)
+    ∙ sym (cond-true (ltb i n) (tray_at b.form xs i) plate (lt-ltb i n lt)))
+    (λ (past : n ≤ i). get_or_past (take n xs) i plate (omega arith) ∙ sym (cond-false (ltb i n) (tray_at b.form xs i) plate (le-ltb i n past)))
+    (cases_lt i n)
+
 module _ {A : Type 0} {b : Ghosts A} (apart : A → A → Bool) where
-  tower_count-tally : (s : Tower A b) → tower_count apart s ≡ tally s.arrangement.n (apart_at apart (on_plate b.form s.arrangement.n s.arrangement.trays))
+  pub tower_count-tally : (s : Tower A b) → tower_count apart s ≡ tally s.arrangement.n (apart_at apart (on_plate b.form s.arrangement.n s.arrangement.trays))
   unfolding tower_count
   tower_count-tally s =
       let n = s.arrangement.n in
       let xs = s.arrangement.trays in
-      let most = s.arrangement.most in
-      let long = (permuted s).long in
       let plate = b.form.upright (n + 1) in
       let first = held_long s.arrangement in
-      let at : (i : ℕ) → i ≤ n → get_or (take n xs) i plate ≡ on_plate b.form n xs i =
-      λ i le.
-      ⊎_elim
-      (λ (lt : i < n).
-      get_or-take n xs i plate lt
-      ∙ get_or_default xs i plate (b.form.upright 0) (omega arith)
-      ∙ sym (cond-true (ltb i n) (tray_at b.form xs i) plate (lt-ltb i n lt)))
-      (λ (past : n ≤ i). get_or_past (take n xs) i plate (omega arith) ∙ sym (cond-false (ltb i n) (tray_at b.form xs i) plate (le-ltb i n past)))
-      (cases_lt i n) in
       apart_count-tally apart (take n xs) plate
       ∙ ap (λ k. tally k (apart_at apart (λ i. get_or (take n xs) i plate))) first
-      ∙ tally_same n (apart_at apart (λ i. get_or (take n xs) i plate)) (apart_at apart (on_plate b.form n xs)) (λ i lt. ap₂ apart (at i (omega arith)) (at (suc i) (omega arith)))
+      ∙ tally_same n (apart_at apart (λ i. get_or (take n xs) i plate)) (apart_at apart (on_plate b.form n xs)) (λ i lt. ap₂ apart (held_at s i (omega arith)) (held_at s (suc i) (omega arith)))
 
   module _ (law : Apart b.form apart) (low : ℕ) where
     pub tower_consistent : Consistent (tower {b = b} low) 1 (tower_count apart)
@@ -118,7 +124,7 @@ breakpoints_consistent e = tower_consistent breakpoint (subst (λ (f : TrayForm 
 
 -- The ring.
 
-ring_gaps-tally : (s : TrayRing) → ring_gaps s ≡ tally s.arrangement.n (apart_round number_tray (ring_gap s.arrangement.n) s.arrangement.n s.arrangement.trays)
+pub ring_gaps-tally : (s : TrayRing) → ring_gaps s ≡ tally s.arrangement.n (apart_round number_tray (ring_gap s.arrangement.n) s.arrangement.n s.arrangement.trays)
 ring_gaps-tally s =
     let n = s.arrangement.n in
     let xs = s.arrangement.trays in
@@ -142,7 +148,7 @@ ring_gaps-tally s =
     ∙ ap (λ k. tally k (apart_at (ring_gap n) (λ i. get_or (take n xs) i end))) first
     ∙ tally_same n (apart_at (ring_gap n) (λ i. get_or (take n xs) i end)) (apart_round number_tray (ring_gap n) n xs) (λ i lt. ap₂ (ring_gap n) (at i lt) (next i lt))
 
-ring_gap_symmetric : (n x y : ℕ) → ring_gap n y x ≡ ring_gap n x y
+pub ring_gap_symmetric : (n x y : ℕ) → ring_gap n y x ≡ ring_gap n x y
 ring_gap_symmetric n x y = let e : abs_diff y x ≡ abs_diff x y = omega arith in ap (λ d. not (d == 1 || d == n - 1)) e
 
 or_true : (b : Bool) → (b || true) ≡ true
@@ -163,6 +169,15 @@ ring_gap_home n i lt =
     ap (λ d. not (d == 1 || d == n - 1)) e ∙ ap not (ap (λ b. (n - 1) == 1 || b) ((Decides-eqb (n - 1) (n - 1)).1 refl) ∙ or_true ((n - 1) == 1)))
     (cases_lt (suc i) n)
 
+-- the run of turn p, whose span is above 0
+pub run_turned : (s : TrayRing) (p : ℕ) → RunReversed number_tray s.arrangement.n (suc (s.span - 1)) (start s.arrangement.n p) s.arrangement.trays (ring.after s p).arrangement.trays
+run_turned s p =
+    let n = s.arrangement.n in
+    let low = s.span_least in
+    let e : s.span ≡ suc (s.span - 1) = omega arith in
+    subst (λ (span : ℕ). RunReversed number_tray n span (start n p) s.arrangement.trays (ring.after s p).arrangement.trays) e
+    (run_reversed n (start n p) (start_within s p) s.span s.span_most number_tray s.arrangement.trays (rings.permuted s).long s.arrangement.most)
+
 pub ring_consistent : Consistent ring 2 ring_gaps
 ring_consistent = record {
   home = λ s home.
@@ -179,8 +194,7 @@ ring_consistent = record {
       let low = s.span_least in
       let before = ring_gaps-tally s in
       let after = ring_gaps-tally t in
-      let run = run_reversed n (start n p) (start_within s p) s.span s.span_most number_tray s.arrangement.trays (rings.permuted s).long s.arrangement.most in
-      let turn = ring_turned number_tray (ring_gap n) (ring_gap_symmetric n) n s.span (start n p) s.arrangement.trays t.arrangement.trays (start_within s p) (omega arith) s.span_most run in
+      let turn = ring_turned number_tray (ring_gap n) (ring_gap_symmetric n) n (n - 1) (s.span - 1) (start n p) s.arrangement.trays t.arrangement.trays (start_within s p) (omega arith) (let fits = s.span_most in omega arith) (run_turned s p) in
       omega arith;
 }
 

@@ -3,8 +3,8 @@ ghost use Rattle.estimate.specs.Meaning.{Consistent};
 ghost use Rattle.gaps.specs.Counts.{breakpoint, breakpoints, signed};
 ghost use Rattle.gaps.specs.Laws.{breakpoint_apart, tower_sound};
 
-use crate::counting::count_on_plate;
-use estimate::Estimate;
+use crate::counting::{count_on_plate, least_on_plate};
+use estimate::{Estimate, SuccessorEstimate};
 use towers::{SidedTower, SidedTray};
 
 // How many trays of a sided tower have one below that is not greater by exactly 1.
@@ -42,5 +42,12 @@ impl Estimate<SidedTower> for Breakpoints {
 
     fn ask(&self, tower: &SidedTower) -> u8 {
         count_breakpoints(tower)
+    }
+}
+
+impl SuccessorEstimate<SidedTower> for Breakpoints {
+    #[tactic(auto, using(crate::specs::Laws::breakpoint_apart))]
+    fn least_after(&self, tower: &SidedTower) -> Option<u8> {
+        least_on_plate(tower, is_breakpoint)
     }
 }

@@ -3,8 +3,8 @@ ghost use Rattle.estimate.specs.Meaning.{Consistent};
 ghost use Rattle.gaps.specs.Counts.{gap, gaps};
 ghost use Rattle.gaps.specs.Laws.{gap_apart, tower_sound};
 
-use crate::counting::count_on_plate;
-use estimate::Estimate;
+use crate::counting::{count_on_plate, least_on_plate};
+use estimate::{Estimate, SuccessorEstimate};
 use towers::PlainTower;
 
 // How many trays of a plain tower differ by more than 1 from the one below.
@@ -34,5 +34,12 @@ impl Estimate<PlainTower> for Gaps {
 
     fn ask(&self, tower: &PlainTower) -> u8 {
         count_gaps(tower)
+    }
+}
+
+impl SuccessorEstimate<PlainTower> for Gaps {
+    #[tactic(auto, using(crate::specs::Laws::gap_apart))]
+    fn least_after(&self, tower: &PlainTower) -> Option<u8> {
+        least_on_plate(tower, is_gap)
     }
 }

@@ -1,10 +1,14 @@
-ghost use Rattle.std.specs.Prelude.{◌≡◌};
+ghost use Rattle.std.specs.Prelude.{◌≡◌, ◌+◌, ◌<◌, ◌≤◌, if◌then◌else◌, length, slice_index, take};
 ghost use Rattle.estimate.specs.Meaning.{Consistent};
 ghost use Rattle.gaps.specs.Counts.{half_gaps, ring_gap, ring_gaps};
 ghost use Rattle.gaps.specs.Laws.{half_sound};
+ghost use Rattle.estimate.specs.Layers.{least_after};
+ghost use Rattle.ring.specs.Ring.{ring as ring_machine, turned};
+ghost use Rattle.ring.specs.declared.kind.TrayRing.{TrayRing};
+ghost use Rattle.trays.specs.Run.{place_on};
 
-use crate::counting::count_apart;
-use estimate::Estimate;
+use crate::counting::{count_apart, lesser};
+use estimate::{Estimate, SuccessorEstimate};
 use ring::TrayRing;
 use trays::Settable;
 
@@ -39,4 +43,68 @@ impl Estimate<TrayRing> for HalfGaps {
     fn ask(&self, ring: &TrayRing) -> u8 {
         count_ring_gaps(ring).div_ceil(2)
     }
+}
+
+impl SuccessorEstimate<TrayRing> for HalfGaps {
+    fn least_after(&self, ring: &TrayRing) -> Option<u8> {
+        least_on_ring(ring)
+    }
+}
+
+// The least half gaps after one turn.
+#[tactic(auto, using(crate::proofs::Held::ring_long))]
+fn least_on_ring(ring: &TrayRing) -> Option<u8>
+    ensures { result ≡ least_after ring_machine half_gaps ring.now }
+{
+    let here = count_ring_gaps(ring);
+    let trays = ring.trays();
+    let mut least = None;
+    for p in 1..=trays.len() as u8 {
+        least = lesser(least, gaps_after(trays, ring.span(), here, p).div_ceil(2));
+    }
+    least
+}
+
+// The gaps after turn p, where there are `here` now. The last tray of the run is then beside the one before the run, and the first beside the one after the run; a run of the whole ring keeps all neighbours.
+fn gaps_after(trays: &[u8], span: u8, here: u8, p: u8) -> u8
+    requires few { length trays.now ≤ 32 }
+    requires low { 1 ≤ p }
+    requires high { p ≤ length trays.now }
+    requires some { 1 ≤ span }
+    requires fits { span ≤ length trays.now }
+    ensures { (ring : TrayRing) → trays.now ≡ take ring.arrangement.n ring.arrangement.trays → span ≡ ring.span →
+        here ≡ ring_gaps ring → result ≡ ring_gaps (turned ring p) }
+{
+    let n = trays.len();
+    let span = span as usize;
+    if span == n {
+        return here;
+    }
+    let from = p as usize - 1;
+    let first = trays[from];
+    let last = tray_on(trays, from, span - 1);
+    let next = tray_on(trays, from, span);
+    let before = tray_on(trays, from, n - 1);
+    let joined = gaps_between(n as u8, first, next, before, last);
+    let parted = gaps_between(n as u8, last, next, before, first);
+    here.saturating_add(joined).saturating_sub(parted)
+}
+
+// How many of two pairs of neighbours are gaps.
+fn gaps_between(n: u8, tray: u8, next: u8, before: u8, after: u8) -> u8
+    ensures { result ≡ (if ring_gap n tray next then 1 else 0) + (if ring_gap n before after then 1 else 0) }
+{
+    u8::from(is_ring_gap(n, tray, next)) + u8::from(is_ring_gap(n, before, after))
+}
+
+// The tray that stands j steps on from a place, counted round.
+fn tray_on(trays: &[u8], from: usize, j: usize) -> u8
+    requires few { length trays.now ≤ 32 }
+    requires from { from < length trays.now }
+    requires steps { j < length trays.now }
+    ensures { result ≡ slice_index trays.now (place_on (length trays.now) from j) }
+{
+    let place = from + j;
+    let n = trays.len();
+    trays[if place < n { place } else { place - n }]
 }

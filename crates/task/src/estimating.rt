@@ -1,11 +1,14 @@
 ghost use Rattle.task.specs.Work.{EstimatesOf};
 
 use crate::outcome::Estimates;
-use estimate::{DualLookup, Estimate, LookAhead};
+use estimate::{DualLookup, Estimate, LookAhead, SuccessorEstimate};
 use machine::Dual;
 
 // What this estimate, look-ahead over it, and dual lookup over that tell of a machine.
-pub fn estimates_of<M: Dual + Copy, E: Estimate<M> + Copy>(machine: &M, estimate: E) -> Estimates
+pub fn estimates_of<M: Dual + Copy, E: SuccessorEstimate<M> + Copy>(
+    machine: &M,
+    estimate: E,
+) -> Estimates
     ensures { EstimatesOf M.meaning M.mirror (E.value estimate) (M.state machine.now) result }
 {
     let look_ahead = LookAhead { below: estimate };

@@ -7,14 +7,14 @@ use crate::estimating::estimates_of;
 use crate::failure::Failure;
 use crate::outcome::{Done, Work};
 use crate::planning::plan_within;
-use estimate::{DualLookup, Estimate, LookAhead};
+use estimate::{DualLookup, LookAhead, SuccessorEstimate};
 use machine::{Dual, follow};
 use std::alloc::{AllocError, Global};
 use text::{Kind, Task};
 use trays::{Settable, Setup};
 
 // Sets a machine of this kind and does the task; or answers why it was not set.
-pub fn attempt<M: Settable + Dual + Copy, E: Estimate<M> + Copy>(
+pub fn attempt<M: Settable + Dual + Copy, E: SuccessorEstimate<M> + Copy>(
     heap: Global,
     kind: Kind,
     estimate: E,
@@ -32,7 +32,7 @@ pub fn attempt<M: Settable + Dual + Copy, E: Estimate<M> + Copy>(
 }
 
 // Makes the turns, finds the dual, estimates the turns that are needed, or finds a plan. The search for it asks dual lookup over look-ahead over the estimate.
-pub fn work<M: Dual + Copy, E: Estimate<M> + Copy>(
+pub fn work<M: Dual + Copy, E: SuccessorEstimate<M> + Copy>(
     heap: Global,
     start: M,
     estimate: E,

@@ -1,5 +1,5 @@
 use crate::given::{falling, home, ring, told, tower};
-use estimate::{DualLookup, Estimate, LookAhead};
+use estimate::{DualLookup, Estimate, LookAhead, SuccessorEstimate};
 use gaps::{Breakpoints, Gaps, HalfGaps, count_breakpoints, count_gaps, count_ring_gaps};
 use machine::{Dual, Machine};
 use ring::TrayRing;
@@ -41,7 +41,7 @@ fn gaps_of_rings(rt: HostRuntime) -> Result<(), Fail> {
 }
 
 // A machine that is home needs no turns.
-fn check_home<M: Dual + Copy, E: Estimate<M> + Copy>(rt: &impl Abort, home: M, count: E) {
+fn check_home<M: Dual + Copy, E: SuccessorEstimate<M> + Copy>(rt: &impl Abort, home: M, count: E) {
     assert_eq!(rt; estimates_of(&home, count), told(0, 0, 0));
 }
 

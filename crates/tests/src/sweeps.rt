@@ -1,5 +1,5 @@
 use crate::given::home;
-use estimate::{DualLookup, Estimate, LookAhead};
+use estimate::{DualLookup, Estimate, LookAhead, SuccessorEstimate};
 use gaps::{Breakpoints, Gaps, HalfGaps};
 use machine::{Dual, TurnRange};
 use ring::TrayRing;
@@ -8,7 +8,7 @@ use std::test::*;
 use towers::{PlainTower, SidedTower};
 
 // This many turns lead here from home, so as many lead back, and no estimate is above their number.
-fn check_most<M: Dual + Copy, E: Estimate<M> + Copy>(
+fn check_most<M: Dual + Copy, E: SuccessorEstimate<M> + Copy>(
     rt: &impl Abort,
     machine: &M,
     count: E,
@@ -29,7 +29,7 @@ fn check_most<M: Dual + Copy, E: Estimate<M> + Copy>(
 }
 
 // Makes each list of up to `most` turns from home, and checks the estimates after each turn.
-fn sweep<M: Dual + Copy, E: Estimate<M> + Copy>(
+fn sweep<M: Dual + Copy, E: SuccessorEstimate<M> + Copy>(
     rt: &(impl Abort + AllocGlobal),
     home: M,
     count: E,

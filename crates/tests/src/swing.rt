@@ -4,7 +4,7 @@ ghost use Rattle.std.proofs.lemmas.Bool.{false≢true};
 ghost use Rattle.estimate.specs.Laws.{consistent_admissible};
 
 use crate::desk::Desk;
-use estimate::{Estimate, LookAhead};
+use estimate::{Estimate, LookAhead, SuccessorEstimate};
 use machine::{Fault, Machine, TurnRange};
 use planner::{Answer, Call};
 use std::process::Abort;
@@ -75,6 +75,8 @@ impl Estimate<Swing> for Numbered {
         machine.here
     }
 }
+
+impl SuccessorEstimate<Swing> for Numbered {}
 
 // Look-ahead over the number here, on a machine of these turns and numbers.
 fn check_ahead(rt: &impl Abort, highest: u8, here: u8, there: u8, ahead: u8)

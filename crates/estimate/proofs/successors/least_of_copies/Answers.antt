@@ -3,7 +3,7 @@ use Rattle.std.proofs.lemmas.Iterator.{YieldsList-from_map}
 use Rattle.std.proofs.lemmas.Iterator.Consumers.{YieldsList-at}
 use Rattle.estimate.proofs.Ranges.{closed}
 use Rattle.estimate.proofs.Reduced.{reduced}
-use Rattle.estimate.proofs.look_ahead.least_after.Goals as goal
+use Rattle.estimate.proofs.successors.least_of_copies.Goals as goal
 
 pub returns : goal.returns
 returns g c =

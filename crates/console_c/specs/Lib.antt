@@ -1,0 +1,3 @@
+pub mod Ends
+pub mod Ownership
+pub mod Statuses
