@@ -38,7 +38,7 @@ static size_t run_tape(struct console *console, const uint8_t *tape, size_t leng
     struct console_ran ran = {0, 0};
     size_t count = 0;
     for (size_t place = 0; place < length; place = ran.next) {
-        uint8_t reply[CONSOLE_MOST_BYTES];
+        uint8_t reply[CONSOLE_LONGEST_REPLY];
         uint8_t status = console_run(console, tape, length, place, reply, sizeof reply, &ran);
         expect(status == CONSOLE_DONE, "each command is done");
         if (status != CONSOLE_DONE) {
@@ -75,7 +75,7 @@ static void refused_calls(void) {
     static const uint8_t long_tape[CONSOLE_LONGEST_TAPE + 1];
     struct console console = CONSOLE_EMPTY;
     struct console_ran ran = {7, 7};
-    uint8_t reply[CONSOLE_MOST_BYTES];
+    uint8_t reply[CONSOLE_LONGEST_REPLY];
     memset(reply, 0xAA, sizeof reply);
     uint8_t empty = console_run(&console, plan, 0, 0, reply, sizeof reply, &ran);
     expect(empty == CONSOLE_NO_CONSOLE, "an empty handle");
@@ -113,7 +113,7 @@ static void whole_tape(void) {
 /* Whether the handle is empty. */
 static bool is_empty(struct console *console) {
     struct console_ran ran;
-    uint8_t reply[CONSOLE_MOST_BYTES];
+    uint8_t reply[CONSOLE_LONGEST_REPLY];
     return console_run(console, plan, 0, 0, reply, sizeof reply, &ran) == CONSOLE_NO_CONSOLE;
 }
 

@@ -1,6 +1,7 @@
 /*
  * The memory of libconsole_c.a, over malloc, realloc and free. To use another allocator, define these three functions
- * over it. All three belong to one allocator. A block of n bytes is aligned to each power of two up to 16 that divides n.
+ * over it: rattle_alloc, rattle_realloc and rattle_dealloc. All three belong to one allocator. A block of n bytes is
+ * aligned to each power of two up to 16 that divides n.
  */
 #include "heap.h"
 
@@ -13,7 +14,7 @@ size_t heap_blocks = 0;
 size_t heap_most_blocks = SIZE_MAX;
 size_t heap_bytes_granted = 0;
 
-/* Whether there is memory, and where. Where there is none, p is still no null pointer. */
+/* What the first two answer: whether there is memory, and where. Where there is none, p is still no null pointer. */
 struct tried {
     bool ok;
     uint8_t *p;
@@ -38,7 +39,7 @@ static struct tried answer(void *p) {
     return t;
 }
 
-/* New memory of n bytes, aligned to a: 1, 2, 4, 8 or 16. A request for 0 bytes is made one for a bytes, so that the address is aligned. */
+/* New memory of n bytes, at an address that is a multiple of a: 1, 2, 4, 8 or 16. A request for 0 bytes is made one for a bytes, so that the address is aligned. */
 struct tried rattle_alloc(size_t n, size_t a) {
     struct tried t = answer(granted() && heap_blocks < heap_most_blocks ? malloc(n != 0 ? n : a) : NULL);
     heap_blocks += t.ok;

@@ -26,7 +26,7 @@ static void *call_new(void *unused) {
 
 static void *call_run(void *unused) {
     struct console_ran ran = {0, 0};
-    uint8_t reply[CONSOLE_MOST_BYTES];
+    uint8_t reply[CONSOLE_LONGEST_REPLY];
     for (size_t place = 0; place < tape_length; place = ran.next) {
         if (console_run(&console, tape, tape_length, place, reply, sizeof reply, &ran) != CONSOLE_DONE) {
             break;

@@ -8,7 +8,8 @@ use Rattle.planner.specs.declared.call.Call.{Call}
 use Rattle.planner.specs.declared.call.Call.TheVariants.{Load, Work, Fetch, Drop}
 use Rattle.planner.specs.declared.fault.Fault.{Fault}
 use Rattle.walk.specs.Sheets.{padded}
-use Rattle.console.specs.Answers.{Asked, carried}
+use Rattle.console.specs.Commanded.{Asked, carried}
+use Rattle.console.specs.Histories.{History}
 
 -- What a planner owes to a call is one thing.
 
@@ -47,7 +48,7 @@ module _ {S : Type 0} (m : Meaning S) (e : S → ℕ) where
   owed_if_once None task c old (Err f) q v w x y = absurd x
   owed_if_once (Some f) task c old r q v w x y = (x.0 ∙ sym y.0, x.1 ∙ sym y.1)
 
-  pub asked_once : (task : Option (Task S)) (c : Call S) (r q : _) (v w : List ℕ) (t u : Option (Task S)) → Asked m e task c r v t → Asked m e task c q w u → (r ≡ q) × (v ≡ w) × (t ≡ u)
-  asked_once task c r q v w t u x y =
+  pub asked_once : (of : Task S → History) (task : Option (Task S)) (c : Call S) (r q : _) (v w : List ℕ) (a b : History) → Asked m e of task c r v a → Asked m e of task c q w b → (r ≡ q) × (v ≡ w) × (a ≡ b)
+  asked_once of task c r q v w a b x y =
       let both = owed_if_once (refused m e task c) task c _ x.reply y.reply v w x.kept y.kept in
-      (x.reply_is ∙ ap carried both.0 ∙ sym y.reply_is, both.1, x.task_is ∙ sym y.task_is)
+      (x.reply_is ∙ ap carried both.0 ∙ sym y.reply_is, both.1, x.next_is ∙ sym y.next_is)

@@ -1,8 +1,9 @@
 mod Busy
 mod Loaded
+mod Standing
 mod Staying
-mod Halfway
+mod SoFar
 mod Readings
 mod Loadings
 mod Askings
-mod Once
+mod Unique

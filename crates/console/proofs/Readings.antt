@@ -1,8 +1,8 @@
-use Rattle.std.proofs.Common.{◌≡◌, ℕ, ◌<◌, List, [], ◌∷◌, ◌++◌, length, length-append, take, drop, Some, None, Option, Ok, Err, Result, MatchOption, refl, sym, ap, subst, ◌∙◌, arith}
+use Rattle.std.proofs.Common.{◌≡◌, ℕ, List, [], ◌∷◌, ◌++◌, length-append, take, drop, Some, None, Option, Ok, Err, Result, refl, sym, ap, subst, ◌∙◌, arith}
 use Rattle.std.specs.Bool.{⊤}
 use Rattle.std.proofs.Math.Seq.{take-append_seam}
 use Rattle.std.specs.List.{slice_index_or}
-use Rattle.tape.specs.Commands.{Begins, Reads, Unreadable, letter_of, operands_of, width, width_after}
+use Rattle.tape.specs.Commands.{Begins, Reads, Unreadable, letter_of, operands_of, width}
 use Rattle.tape.specs.declared.command.Command.{Command}
 use Rattle.tape.specs.declared.command.Command.TheVariants.{Plain, Sided, Ring, Work, Go, Fetch, Drop}
 use Rattle.tape.specs.declared.fault.Fault.{Fault}
@@ -31,29 +31,31 @@ same_by_bytes Fetch Fetch e f = tt
 same_by_bytes Drop Drop e f = tt
 same_by_bytes c d e f = absurd (omega arith)
 
-width_by_letter : (c : Command) → width_after (letter_of c) ≡ Some (width c)
-width_by_letter (Plain a) = refl
-width_by_letter (Sided a) = refl
-width_by_letter (Ring a) = refl
-width_by_letter (Work a) = refl
-width_by_letter Go = refl
-width_by_letter Fetch = refl
-width_by_letter Drop = refl
+-- A letter has one width.
+same_width : (c d : Command) → letter_of c ≡ letter_of d → width c ≡ width d
+same_width (Plain a) (Plain b) e = refl
+same_width (Sided a) (Sided b) e = refl
+same_width (Ring a) (Ring b) e = refl
+same_width (Work a) (Work b) e = refl
+same_width Go Go e = refl
+same_width Fetch Fetch e = refl
+same_width Drop Drop e = refl
+same_width c d e = absurd (omega arith)
 
 begins_once : (t : List ℕ) (c d : Command) → Begins t c → Begins t d → SameCommand c d
 begins_once t c d x y =
     let both = sym x.is ∙ y.is in
     let letters = ap (λ (xs : List ℕ). slice_index_or xs 0 0) both in
-    let widths : width c ≡ width d = let some = sym (width_by_letter c) ∙ ap width_after letters ∙ width_by_letter d in cc some in
+    let widths = same_width c d letters in
     let front = λ (e : Command) (z : Begins t e). sym (ap (λ (n : ℕ). take n (operands_of e ++ z.rest)) (sym z.whole) ∙ take-append_seam (operands_of e) z.rest) in
     same_by_bytes c d letters (front c x ∙ ap (take (width c)) (ap (drop 1) both) ∙ ap (λ (n : ℕ). take n (operands_of d ++ y.rest)) widths ∙ sym (front d y))
 
 begins_readable : (t : List ℕ) (c : Command) (f : Fault) → Begins t c → Unreadable t f → ⊥
-begins_readable t c UnknownCommand x u =
-    let none : width_after (letter_of c) ≡ None = subst (λ xs. Unreadable xs UnknownCommand) x.is u in
-    cc (sym (width_by_letter c) ∙ none)
+begins_readable t c UnknownCommand x u = subst (λ xs. Unreadable xs UnknownCommand) x.is u c refl
 begins_readable t c OperandsCut x u =
-    let less = subst (λ o. MatchOption o ⊥ (λ w. length (operands_of c ++ x.rest) < w)) (width_by_letter c) (subst (λ xs. Unreadable xs OperandsCut) x.is u) in
+    let cut = subst (λ xs. Unreadable xs OperandsCut) x.is u in
+    let widths = same_width cut.0 c cut.1 in
+    let less = cut.2 in
     let whole = x.whole in
     let long = length-append (operands_of c) x.rest in
     omega arith
@@ -63,8 +65,8 @@ unreadable_once : (t : List ℕ) (f g : Fault) → Unreadable t f → Unreadable
 unreadable_once [] f g x y = absurd x
 unreadable_once (letter ∷ rest) UnknownCommand UnknownCommand x y = refl
 unreadable_once (letter ∷ rest) OperandsCut OperandsCut x y = refl
-unreadable_once (letter ∷ rest) UnknownCommand OperandsCut x y = absurd (subst (λ o. MatchOption o ⊥ (λ w. length rest < w)) x y)
-unreadable_once (letter ∷ rest) OperandsCut UnknownCommand x y = absurd (subst (λ o. MatchOption o ⊥ (λ w. length rest < w)) y x)
+unreadable_once (letter ∷ rest) UnknownCommand OperandsCut x y = absurd (x y.0 y.1)
+unreadable_once (letter ∷ rest) OperandsCut UnknownCommand x y = absurd (y x.0 x.1)
 unreadable_once (letter ∷ rest) UnknownCommand g x y = absurd y
 unreadable_once (letter ∷ rest) OperandsCut g x y = absurd y
 unreadable_once (letter ∷ rest) f g x y = absurd x

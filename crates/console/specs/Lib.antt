@@ -1,4 +1,5 @@
-pub mod Answers
+pub mod Commanded
+pub mod Asks
 pub mod Histories
 pub mod Holds
 pub mod Kinds

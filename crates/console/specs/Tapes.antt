@@ -1,4 +1,4 @@
-use Rattle.std.specs.Prelude.{◌≡◌, ℕ, zero, suc, ◌+◌, ◌<◌, ◌≤◌, if◌then◌else◌, nat_lt, List, [], ◌++◌, length, drop, Some, None, Option, Ok, Err, Result}
+use Rattle.std.specs.Prelude.{◌≡◌, ℕ, zero, suc, ◌+◌, ◌<◌, ◌≤◌, if◌then◌else◌, nat_lt, List, [], ◌++◌, length, drop, slice_index, Some, None, Option, Ok, Err, Result}
 use Rattle.planner.specs.declared.answer.Answer.{Answer}
 use Rattle.tape.specs.Commands.{Reads, width}
 use Rattle.tape.specs.Places.{refused_for}
@@ -8,9 +8,11 @@ use Rattle.tape.specs.declared.fault.Fault.{Fault}
 use Rattle.tape.specs.declared.fault.Fault.TheVariants.{TapeLength, Place, ReplyRoom}
 use Rattle.tape.specs.declared.fault.Refusal.{Refusal}
 use Rattle.tape.specs.declared.placed.Placed.{Placed}
+use Rattle.console.specs.declared.planners.Console.{Console}
 use Rattle.console.specs.declared.running.Ran.{Ran}
-use Rattle.console.specs.Answers.{Answered}
-use Rattle.console.specs.Histories.{History, first}
+use Rattle.console.specs.Commanded.{Answered}
+use Rattle.console.specs.Histories.{History, none}
+use Rattle.console.specs.Holds.{Stands}
 
 -- Why a call of the console is refused as a whole, by the tape, the place and the room for the reply.
 abbrev pub call_fault : List ℕ → ℕ → ℕ → Option Fault
@@ -52,13 +54,26 @@ OneStep = (tape : List ℕ) (place : ℕ) (h : History) (bytes others : List ℕ
 abbrev pub Whole : List ℕ → ℕ → ℕ → Refusal → Type 0
 Whole tape place room r = (call_fault tape place room ≡ Some r.fault) × (r.place ≡ 0)
 
--- What a call of the console answers and leaves: the reply is written, and the bytes past it stay; or the call is refused.
-abbrev pub Runs : List ℕ → ℕ → History → List ℕ → Result Ran Refusal → List ℕ → History → Type 0
-Runs tape place h old (Ok ran) new after =
-    (call_fault tape place (length old) ≡ None)
-    × ((bytes : List ℕ) × Step tape place h bytes ran.next after × (ran.count ≡ length bytes) × (new ≡ bytes ++ drop (length bytes) old))
-Runs tape place h old (Err r) new after =
-    Whole tape place (length old) r × (new ≡ old) × (after ≡ h)
+-- What stands at the place is run, after this history: the reply is written, and the bytes past it stay.
+pub record Runs (tape : List ℕ) (place : ℕ) (h : History) (old : List ℕ) (ran : Ran) (new : List ℕ) (after : History) : Type 0 where
+  pub bytes : List ℕ
+  pub step : Step tape place h bytes ran.next after
+  pub count_is : ran.count ≡ length bytes
+  pub written : new ≡ bytes ++ drop (length bytes) old
+
+-- A console c runs what stands at the place, for every history, and is c' after it. A reply that begins with E and the tape's end leave it as it was.
+pub record RunsAt (tape : List ℕ) (place : ℕ) (c : Console) (old : List ℕ) (ran : Ran) (c' : Console) (new : List ℕ) : Type 0 where
+  pub runs : (h : History) → Stands h c → (after : History) × Runs tape place h old ran new after × Stands after c'
+  pub told : slice_index new 0 ≡ 0x45 → c' ≡ c
+  pub idle : ran.count ≡ 0 → c' ≡ c
+  pub further : place < length tape → place < ran.next
+  pub on_tape : ran.next ≤ length tape
+  pub few : ran.count ≤ 66
+
+-- What one call of a console answers and leaves: it is refused as a whole and changes nothing, or else it runs what stands at the place.
+abbrev pub Called : List ℕ → ℕ → Console → List ℕ → Result Ran Refusal → Console → List ℕ → Type 0
+Called tape place c old (Ok ran) c' new = (call_fault tape place (length old) ≡ None) × RunsAt tape place c old ran c' new
+Called tape place c old (Err r) c' new = Whole tape place (length old) r × (c' ≡ c) × (new ≡ old)
 
 -- One command further than a place, a history and replies for which `Before` holds.
 pub record Further (tape : List ℕ) (Before : ℕ → History → List ℕ → Type 0) (next : ℕ) (after : History) (replies : List ℕ) : Type 0 where
@@ -73,7 +88,7 @@ pub record Further (tape : List ℕ) (Before : ℕ → History → List ℕ → 
 
 -- After n commands from the beginning of the tape, this place is next, with this history and these replies.
 abbrev pub After : List ℕ → ℕ → ℕ → History → List ℕ → Type 0
-After tape zero place h replies = (place ≡ 0) × (h ≡ first) × (replies ≡ [])
+After tape zero place h replies = (place ≡ 0) × (h ≡ none) × (replies ≡ [])
 After tape (suc n) place h replies = Further tape (After tape n) place h replies
 
 -- All replies to a tape, by a new console: its refusal where it is too long, else the replies to its commands, from its beginning to its end.

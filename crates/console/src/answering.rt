@@ -1,5 +1,6 @@
-ghost use Rattle.std.specs.Prelude.{◌≡◌, IfErr, replicate};
-ghost use Rattle.console.specs.Answers.{Answered, AskedOf, latest_after};
+ghost use Rattle.std.specs.Prelude.{◌≡◌, IfErr, MatchResult, replicate};
+ghost use Rattle.console.specs.Commanded.{Answered, AskedOf};
+ghost use Rattle.console.specs.Asks.{call_of};
 ghost use Rattle.console.specs.Histories.{History};
 ghost use Rattle.console.specs.Holds.{Stands};
 
@@ -10,7 +11,7 @@ use planner::{Answer, Sheet};
 use tape::{Command, Fault};
 
 // The grant of G.
-const SHORT_GRANT: u32 = 10_000;
+const GO_GRANT: u32 = 10_000;
 
 impl Console {
     // Answers a command, or refuses it and changes nothing.
@@ -43,7 +44,7 @@ impl Console {
                 reply
             }
             Command::Work(grant) => self.ask_latest(Ask::Work(u32::from_be_bytes(**grant)), sheet),
-            Command::Go => self.ask_latest(Ask::Work(SHORT_GRANT), sheet),
+            Command::Go => self.ask_latest(Ask::Work(GO_GRANT), sheet),
             Command::Fetch => self.ask_latest(Ask::Fetch, sheet),
             Command::Drop => self.ask_latest(Ask::Drop, sheet),
         }
@@ -53,7 +54,7 @@ impl Console {
     fn ask_latest(&mut self, what: Ask, sheet: &mut Sheet) -> Result<Answer, Fault>
         requires { sheet.old ≡ replicate 64 0 }
         ensures asked { (h : History) → Stands h self.old →
-            (after : History) × AskedOf h.latest h what result sheet.new after × Stands after self.new }
+            (after : History) × AskedOf h (λ _. call_of what) result sheet.new after × Stands after self.new }
         ensures refused { IfErr result (λ _. self.new ≡ self.old) }
     {
         match self.latest {
@@ -66,7 +67,7 @@ impl Console {
 
 // The kind of the latest accepted load, after this reply to a load of that kind.
 fn latest_after(before: Kind, loaded: Kind, reply: Result<Answer, Fault>) -> Kind
-    ensures { result ≡ latest_after before loaded reply }
+    ensures { MatchResult reply (λ _. result ≡ loaded) (λ _. result ≡ before) }
 {
     match reply {
         Ok(_) => loaded,

@@ -1,7 +1,11 @@
-ghost use Rattle.std.specs.Prelude.{◌≡◌, Option, IfErr, replicate};
-ghost use Rattle.planner.specs.Calls.{Task};
+ghost use Rattle.std.specs.Prelude.{◌≡◌, Option, Result, IfErr, replicate};
+ghost use Rattle.planner.specs.Calls.{Task, after};
 ghost use Rattle.planner.specs.Holds.{Holds, estimate_of};
-ghost use Rattle.console.specs.Answers.{Asked, call_of};
+ghost use Rattle.planner.specs.Promise.{Kept};
+ghost use Rattle.planner.specs.declared.answer.Answer.{Answer};
+ghost use Rattle.planner.specs.declared.fault.Fault as faults;
+ghost use Rattle.console.specs.Commanded.{carried};
+ghost use Rattle.console.specs.Asks.{call_of};
 
 use estimate::Estimate;
 use machine::Machine;
@@ -38,9 +42,9 @@ pub(crate) fn ask_planner<M: Machine + Drop, E: Estimate<M> + Drop>(
     requires { sheet.old ≡ replicate 64 0 }
     ensures asked { (task : Option (Task M.State)) →
         Holds M.meaning M.state (E.value (estimate_of planner.old)) task planner.old →
-        (next : Option (Task M.State))
-        × Asked M.meaning (E.value (estimate_of planner.old)) task (call_of ask) result sheet.new next
-        × Holds M.meaning M.state (E.value (estimate_of planner.old)) next planner.new }
+        (reply : Result Answer faults.Fault) × (result ≡ carried reply)
+        × Kept M.meaning (E.value (estimate_of planner.old)) task (call_of ask) (replicate 64 0) reply sheet.new
+        × Holds M.meaning M.state (E.value (estimate_of planner.old)) (after M.meaning (E.value (estimate_of planner.old)) task (call_of ask)) planner.new }
     ensures refused { IfErr result (λ _. planner.new ≡ planner.old) }
 {
     Ok(planner.answer(ask.call(), sheet)?)

@@ -1,4 +1,4 @@
-ghost use Rattle.std.specs.Prelude.{◌≡◌, true, Option, IfErr, drop, slice_index};
+ghost use Rattle.std.specs.Prelude.{◌≡◌, true, Option, Some, IfErr, drop, slice_index};
 ghost use Rattle.planner.specs.Calls.{Task, at_work, doing};
 ghost use Rattle.planner.specs.Holds.{Holds, estimate_of};
 ghost use Rattle.console.specs.Loads.{Loads};
@@ -21,7 +21,7 @@ pub(crate) fn load<M: Settable + Drop, E: Estimate<M> + Drop>(
         Holds M.meaning M.state (E.value (estimate_of planner.old)) task planner.old →
         (at_work (doing M.meaning (E.value (estimate_of planner.old)) task) ≡ true → busy ≡ true) →
         (next : Option (Task M.State))
-        × Loads M.state M.form M.LEAST M.holding busy limit (holding_of M.form M.spanning setup.now) task result next
+        × Loads M.state M.form M.LEAST M.holding (λ t. Some t) busy limit (holding_of M.form M.spanning setup.now) task result next
         × Holds M.meaning M.state (E.value (estimate_of planner.old)) next planner.new }
     ensures refused { IfErr result (λ _. planner.new ≡ planner.old) }
 {

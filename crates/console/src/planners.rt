@@ -1,6 +1,6 @@
 ghost use Rattle.std.specs.Prelude.{◌≡◌, IfOk, None, ℕ};
-ghost use Rattle.planner.specs.Holds.{Holds, estimate_of};
-ghost use Rattle.console.specs.Histories.{History, busy, first};
+ghost use Rattle.planner.specs.Holds.{Holds};
+ghost use Rattle.console.specs.Histories.{History, busy, none};
 ghost use Rattle.console.specs.Holds.{Stands};
 
 use estimate::{DualLookup, LookAhead, SuccessorEstimate};
@@ -32,7 +32,7 @@ pub struct Console {
 impl Console {
     // A console before its first command.
     pub fn new(heap: Global) -> Result<Console, AllocError>
-        ensures { IfOk result (λ c. Stands first c) }
+        ensures { IfOk result (λ c. Stands none c) }
     {
         Ok(Console {
             plain: empty_planner(heap, Gaps)?,

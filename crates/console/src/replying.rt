@@ -1,11 +1,11 @@
 ghost use Rattle.std.specs.Prelude.{IfOk};
-ghost use Rattle.console.specs.Histories.{first};
+ghost use Rattle.console.specs.Histories.{none};
 ghost use Rattle.console.specs.Holds.{Stands};
 ghost use Rattle.console.specs.Tapes.{AllReplies, LongAlike, OneReply};
 
 use crate::planners::Console;
 use std::alloc::{AllocError, Global};
-use tape::MOST_BYTES;
+use tape::LONGEST_REPLY;
 
 // All replies to a tape, one after the other, by a new console. A fault ends them, with its five bytes.
 pub fn replies(heap: Global, tape: &[u8]) -> Result<Vec<u8>, AllocError>
@@ -19,12 +19,12 @@ pub fn replies(heap: Global, tape: &[u8]) -> Result<Vec<u8>, AllocError>
 impl Console {
     // Runs a tape from its beginning, and gives all replies.
     fn run_tape(mut self, heap: Global, tape: &[u8]) -> Result<Vec<u8>, AllocError>
-        ensures { Stands first self → IfOk result (λ v. AllReplies tape.now v.items) }
+        ensures { Stands none self → IfOk result (λ v. AllReplies tape.now v.items) }
     {
         let mut replies = Vec::new(heap);
         let mut place = 0;
         while place < tape.len() {
-            let mut reply = [0; MOST_BYTES];
+            let mut reply = [0; LONGEST_REPLY];
             match self.run(tape, place, &mut reply) {
                 Ok(ran) => {
                     replies.extend_from_slice(&reply[..ran.count])?;

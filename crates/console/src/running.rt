@@ -1,12 +1,12 @@
-ghost use Rattle.std.specs.Prelude.{◌≡◌, ◌+◌, ◌<◌, ◌≤◌, ◌++◌, ℕ, List, length, drop, slice_index, IfOk, IfErr, MatchResult, None};
+ghost use Rattle.std.specs.Prelude.{◌≡◌, ◌+◌, ◌<◌, ◌≤◌, ◌++◌, ℕ, List, length, drop, slice_index, MatchResult, None};
 ghost use Rattle.tape.specs.Commands.{width};
 ghost use Rattle.console.specs.Histories.{History};
 ghost use Rattle.console.specs.Holds.{Stands};
-ghost use Rattle.console.specs.Tapes.{OneStep, Replied, Runs, Step, Whole, call_fault, placed_reply};
+ghost use Rattle.console.specs.Tapes.{Called, OneStep, Replied, Runs, Whole, call_fault, placed_reply};
 
 use crate::planners::Console;
 use planner::Answer;
-use tape::{Command, Fault, MOST_BYTES, Placed, Refusal, write_reply};
+use tape::{Command, Fault, LONGEST_REPLY, Placed, Refusal, write_reply};
 
 // A tape has at most these bytes.
 pub const LONGEST_TAPE: usize = 4096;
@@ -22,12 +22,7 @@ impl Console {
     // Runs the command at this place of the tape and writes its reply; the bytes past it stay. At the tape's end nothing is run. What is refused as a whole changes nothing.
     pub fn run(&mut self, tape: &[u8], place: usize, reply: &mut [u8]) -> Result<Ran, Refusal>
         ensures one { OneStep }
-        ensures runs { (h : History) → Stands h self.old →
-            (after : History) × Runs tape.now place h reply.old result reply.new after × Stands after self.new }
-        ensures refused { IfErr result (λ _. (self.new ≡ self.old) × (reply.new ≡ reply.old)) }
-        ensures told { IfOk result (λ ran. slice_index reply.new 0 ≡ 0x45 → self.new ≡ self.old) }
-        ensures idle { IfOk result (λ ran. ran.count ≡ 0 → self.new ≡ self.old) }
-        ensures forward { IfOk result (λ ran. (place < length tape.now → place < ran.next) × (ran.next ≤ length tape.now) × (ran.count ≤ 66)) }
+        ensures called { Called tape.now place self.old reply.old result self.new reply.new }
     {
         check_place(tape, place)?;
         match reply.first_chunk_mut() {
@@ -37,12 +32,11 @@ impl Console {
     }
 
     // Runs the command at this place, which is on the tape or at its end.
-    fn run_at(&mut self, tape: &[u8], place: usize, bytes: &mut [u8; MOST_BYTES]) -> Ran
+    fn run_at(&mut self, tape: &[u8], place: usize, bytes: &mut [u8; LONGEST_REPLY]) -> Ran
         requires fits { length tape.now ≤ 4096 }
         requires on_tape { place ≤ length tape.now }
         ensures runs { (h : History) → Stands h self.old →
-            (after : History) × (reply : List ℕ) × Step tape.now place h reply result.next after
-            × (result.count ≡ length reply) × (bytes.new ≡ reply ++ drop (length reply) bytes.old) × Stands after self.new }
+            (after : History) × Runs tape.now place h bytes.old result bytes.new after × Stands after self.new }
         ensures refused { slice_index bytes.new 0 ≡ 0x45 → self.new ≡ self.old }
         ensures idle { result.count ≡ 0 → self.new ≡ self.old }
         ensures long { length bytes.new ≡ 66 }
@@ -72,7 +66,7 @@ impl Console {
     }
 
     // Runs this command and writes its reply.
-    fn run_command(&mut self, placed: &Placed, bytes: &mut [u8; MOST_BYTES]) -> Ran
+    fn run_command(&mut self, placed: &Placed, bytes: &mut [u8; LONGEST_REPLY]) -> Ran
         ensures runs { (h : History) → Stands h self.old →
             (after : History) × (reply : List ℕ) × Replied placed.now.place h placed.now.command reply result.next after
             × (result.count ≡ length reply) × (bytes.new ≡ reply ++ drop (length reply) bytes.old) × Stands after self.new }

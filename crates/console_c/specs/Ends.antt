@@ -1,10 +1,9 @@
-use Rattle.std.specs.Prelude.{◌≡◌, ℕ, ◌<◌, ◌≤◌, List, ◌++◌, length, drop, slice_index, Option, Some, None, Result, Ok, Err, IfOk, IfErr}
+use Rattle.std.specs.Prelude.{◌≡◌, ℕ, ◌<◌, ◌≤◌, List, ◌++◌, length, drop, Option, Some, None, Ok, Err}
 use Rattle.tape.specs.declared.fault.Refusal.{Refusal}
 use Rattle.console.specs.declared.planners.Console.{Console}
-use Rattle.console.specs.declared.running.Ran.{Ran}
-use Rattle.console.specs.Histories.{History, first}
+use Rattle.console.specs.Histories.{none}
 use Rattle.console.specs.Holds.{Stands}
-use Rattle.console.specs.Tapes.{AllReplies, Runs}
+use Rattle.console.specs.Tapes.{AllReplies, Called}
 use Rattle.console_c.specs.declared.keeping.ConsoleRan.{ConsoleRan}
 use Rattle.console_c.specs.declared.status.Status.{Status}
 use Rattle.console_c.specs.declared.status.Status.TheVariants.{Done, Refused, NoMemory, NoConsole, NoRoom}
@@ -20,17 +19,9 @@ RepliesEnd tape old status new needed = ⊥
 
 -- How a call for a new console ends, and what is kept then.
 abbrev pub NewEnds : Status → Option Console → Type 0
-NewEnds Done (Some c) = Stands first c
+NewEnds Done (Some c) = Stands none c
 NewEnds NoMemory None = Unit {0}
 NewEnds status kept = ⊥
-
--- What a console c answers to a call, and c' after it. What is refused as a whole, told by E or run at the tape's end leaves it as it was.
-pub record Called (tape : List ℕ) (place : ℕ) (c : Console) (old : List ℕ) (r : Result Ran Refusal) (c' : Console) (new : List ℕ) : Type 0 where
-  pub runs : (h : History) → Stands h c → (after : History) × Runs tape place h old r new after × Stands after c'
-  pub refused : IfErr r (λ _. (c' ≡ c) × (new ≡ old))
-  pub told : IfOk r (λ ran. slice_index new 0 ≡ 0x45 → c' ≡ c)
-  pub idle : IfOk r (λ ran. ran.count ≡ 0 → c' ≡ c)
-  pub forward : IfOk r (λ ran. (place < length tape → place < ran.next) × (ran.next ≤ length tape) × (ran.count ≤ 66))
 
 -- How a call of what is kept ends, for a reply buffer with these bytes before and after.
 abbrev pub RunEnds : List ℕ → ℕ → Option Console → List ℕ → ConsoleRan → Status → Option Console → List ℕ → ConsoleRan → Type 0

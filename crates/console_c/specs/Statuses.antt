@@ -3,7 +3,7 @@ use Rattle.tape.specs.Replies.{told}
 use Rattle.console_c.specs.declared.status.Status.{Status}
 use Rattle.console_c.specs.declared.status.Status.TheVariants.{Done, Refused, NoMemory, NoConsole, NoRoom}
 
--- The number that C is given for a status. What the console refuses as a whole has the number of its refusal; by `Runs` that is 1, 2 or 3.
+-- The number that C is given for a status. What the console refuses as a whole has the number of its refusal; by `Called` that is 1, 2 or 3.
 abbrev pub status_number : Status → ℕ
 status_number Done = 0
 status_number (Refused fault) = (told fault).number

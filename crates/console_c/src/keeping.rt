@@ -1,5 +1,5 @@
 ghost use Rattle.std.specs.Prelude.{IfOk};
-ghost use Rattle.console.specs.Histories.{first};
+ghost use Rattle.console.specs.Histories.{none};
 ghost use Rattle.console.specs.Holds.{Stands};
 ghost use Rattle.console_c.specs.Ends.{NewEnds, RunEnds};
 
@@ -18,7 +18,7 @@ pub struct ConsoleRan {
 
 // A new console on the heap.
 fn new_console(heap: Global) -> Result<Box<Console>, AllocError>
-    ensures { IfOk result (λ b. Stands first b.value) }
+    ensures { IfOk result (λ b. Stands none b.value) }
 {
     Ok(Box::new(heap, Console::new(heap)?)?)
 }

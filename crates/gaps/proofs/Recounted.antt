@@ -1,7 +1,8 @@
 use Rattle.std.proofs.Common.{◌≡◌, ℕ, zero, suc, ◌+◌, ◌-◌, ◌<◌, ◌≤◌, min, Bool, true, cond, List, length, get_or, take, ap, ap₂, ◌∙◌, arith}
 use Rattle.std.proofs.lemmas.List.{get_or_default}
 use Rattle.trays.specs.declared.tray.Tray.{Ghosts}
-use Rattle.trays.proofs.Neighbours.{Apart, apart_at, on_plate, plate_recount}
+use Rattle.trays.specs.Apart.{Apart}
+use Rattle.trays.proofs.Neighbours.{apart_at, on_plate, plate_recount}
 use Rattle.trays.proofs.Tally.{one_at_most, tally_le}
 use Rattle.towers.specs.declared.tower.Tower.{Tower}
 use Rattle.towers.specs.Towers.{turn_moves, turned}

@@ -41,6 +41,6 @@ ring_gap n tray next = not (abs_diff tray next == 1 || abs_diff tray next == n -
 abbrev pub ring_gaps : TrayRing → ℕ
 ring_gaps s = let xs = take s.arrangement.n s.arrangement.trays in apart_count (ring_gap s.arrangement.n) xs (slice_index xs 0)
 
--- The number of gaps of a ring plus 1, halved and rounded down.
+-- Half the gaps of a ring, rounded up.
 abbrev pub half_gaps : TrayRing → ℕ
 half_gaps s = (ring_gaps s + 1) / 2

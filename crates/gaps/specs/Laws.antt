@@ -14,7 +14,8 @@ use Rattle.trays.specs.Form.{TrayForm, number_regular, number_tray, tray_at}
 use Rattle.trays.specs.Run.{RunReversed, place_on}
 use Rattle.trays.specs.declared.tray.Tray.{Ghosts}
 use Rattle.trays.proofs.Held.{held_long}
-use Rattle.trays.proofs.Neighbours.{Apart, apart_at, on_plate, plate_home, plate_turned, apart_round, ring_turned}
+use Rattle.trays.specs.Apart.{Apart}
+use Rattle.trays.proofs.Neighbours.{apart_at, on_plate, plate_home, plate_turned, apart_round, ring_turned}
 use Rattle.trays.proofs.Permuting.{first_in_order}
 use Rattle.trays.proofs.Running.{on_far, on_near, on_within, run_reversed}
 use Rattle.trays.proofs.Tally.{tally, tally_first, tally_le, tally_none, tally_same, tally_zero}

@@ -5,7 +5,7 @@ ghost use Rattle.estimate.specs.Layers.{least_after};
 ghost use Rattle.gaps.specs.Counts.{apart_count, tower_count};
 ghost use Rattle.towers.specs.Towers.{tower as meaning, turned};
 ghost use Rattle.towers.specs.declared.tower.Tower.{Tower};
-ghost use Rattle.trays.proofs.Neighbours.{Apart};
+ghost use Rattle.trays.specs.Apart.{Apart};
 
 use towers::{Tower, TowerTray};
 use trays::Settable;
@@ -83,7 +83,7 @@ pub(crate) fn count_apart<T: Copy, F: Fn(T, T) -> bool>(trays: &[T], end: T, apa
     ensures { (h : T → T → Bool) → ActsAsOnTwo F.Fn apart h → result ≡ apart_count h trays.now end }
 {
     let mut count = 0;
-    // A chain of `zip`, `filter` and `count` would be no plainer: its closure, which calls a parameter, needs clauses of its own.
+    // A loop, since the closure of a chain would call a parameter, and need clauses of its own for that.
     for (i, &tray) in trays.iter().enumerate() {
         let next = trays.get(i + 1).copied().unwrap_or(end);
         count += u8::from(apart(tray, next));

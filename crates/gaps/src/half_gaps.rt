@@ -31,7 +31,7 @@ fn is_ring_gap(n: u8, tray: u8, next: u8) -> bool
     difference != 1 && difference != n.saturating_sub(1)
 }
 
-// Half the gaps of a ring, rounded up: a turn can mend two.
+// Half the gaps of a ring, rounded up: a turn lowers the gaps by at most 2.
 #[derive(Clone, Copy)]
 pub struct HalfGaps;
 

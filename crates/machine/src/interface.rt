@@ -5,7 +5,7 @@ ghost use Rattle.machine.specs.Turned.{Turned};
 
 use crate::fault::Fault;
 
-// The turn numbers that a machine has, both ends included. A `RangeInclusive` would be no plainer: it is no `Copy`, and also says how far it was walked.
+// The turn numbers that a machine has, both ends included. It is a struct, since a `RangeInclusive` is not `Copy`, and also says how far it was walked.
 #[derive(Clone, Copy, PartialEq, Eq, Debug)]
 pub struct TurnRange {
     pub lowest: u8,

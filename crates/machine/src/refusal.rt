@@ -4,7 +4,7 @@ ghost use Rattle.machine.specs.Refusal.{refusal};
 use crate::fault::Fault;
 
 impl Fault {
-    // The number of the refusal, which is told outside. A `From<Fault> for u8` would be no plainer: it would not say which number.
+    // The number of the refusal, which is told outside.
     pub fn number(self) -> u8
         ensures { result ≡ (refusal self).number }
     {

@@ -1,6 +1,6 @@
 use crate::fault::Fault;
 
-// How a list of turns ended. A `Result<bool, Fault>` would be no plainer: the flag would say nothing of home.
+// How a list of turns ended.
 #[derive(Clone, Copy, PartialEq, Eq, Debug)]
 pub enum Ending {
     // all were made, and the machine is home

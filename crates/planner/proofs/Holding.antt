@@ -21,7 +21,7 @@ module _ {S M : Type 0} (m : Meaning S) (state : M → S) (e : S → ℕ) where
   abbrev Doing : Task S → Phase → ℕ → Type 0
   Doing t ph looks = (ph ≡ doing m e (Some t)) × (looks ≡ min t.granted (search_of m e t).looks)
 
-  ended : (t : Task S) → (search_of m e t).looks ≤ t.granted → doing m e (Some t) ≡ elim (search_of m e t).plan [ None ↦ phase.OutOfPlans | Some p ↦ phase.Found ]
+  ended : (t : Task S) → (search_of m e t).looks ≤ t.granted → doing m e (Some t) ≡ elim (search_of m e t).plan [ None ↦ phase.NoPlan | Some p ↦ phase.Found ]
   ended t le = cond-false (nat_lt t.granted (search_of m e t).looks) _ _ (le-ltb t.granted (search_of m e t).looks le)
 
   pub doing_by : (t : Task S) (ph : Phase) (looks : ℕ) (p : Progress M) → Standing m state e t.limit t.start ph looks p → looks ≤ t.granted → (ph ≡ phase.AtWork → looks ≡ t.granted) → Doing t ph looks
@@ -34,16 +34,16 @@ module _ {S M : Type 0} (m : Meaning S) (state : M → S) (e : S → ℕ) where
       (sym (cond-true (nat_lt t.granted (search_of m e t).looks) _ _ (lt-ltb t.granted (search_of m e t).looks less)), omega arith)
   doing_by t phase.Found looks p x le all =
       let made = x.all_made in
-      (sym (ended t (omega arith) ∙ ap (λ o. elim o [ None ↦ phase.OutOfPlans | Some q ↦ phase.Found ]) x.plan_is), omega arith)
-  doing_by t phase.OutOfPlans looks p x le all =
+      (sym (ended t (omega arith) ∙ ap (λ o. elim o [ None ↦ phase.NoPlan | Some q ↦ phase.Found ]) x.plan_is), omega arith)
+  doing_by t phase.NoPlan looks p x le all =
       let made = x.all_made in
-      (sym (ended t (omega arith) ∙ ap (λ o. elim o [ None ↦ phase.OutOfPlans | Some q ↦ phase.Found ]) x.none), omega arith)
+      (sym (ended t (omega arith) ∙ ap (λ o. elim o [ None ↦ phase.NoPlan | Some q ↦ phase.Found ]) x.none), omega arith)
 
 -- What a planner is doing after a look.
 abbrev pub phase_after : Seen → Phase
 phase_after GoesOn = phase.AtWork
 phase_after Home = phase.Found
-phase_after Ended = phase.OutOfPlans
+phase_after Ended = phase.NoPlan
 
 plan_not_home : (look : Look) (rest : List Look) → NotHome look → plan (look ∷ rest) ≡ plan rest
 plan_not_home (cut t) rest h = refl

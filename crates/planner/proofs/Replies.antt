@@ -41,7 +41,7 @@ module _ {S : Type 0} (m : Meaning S) (e : S → ℕ) (t : Task S) (owes : Finds
       absurd (not_working (search_of m e t).plan (is ∙ cond-false (nat_lt t.granted (search_of m e t).looks) _ _ (le-ltb t.granted (search_of m e t).looks all))))
       (cases_lt t.granted (search_of m e t).looks)
     where
-      not_working : (o : Option (List ℕ)) → phase.AtWork ≡ elim o [ None ↦ phase.OutOfPlans | Some p ↦ phase.Found ] → ⊥
+      not_working : (o : Option (List ℕ)) → phase.AtWork ≡ elim o [ None ↦ phase.NoPlan | Some p ↦ phase.Found ] → ⊥
       not_working None is = subst IsAtWork is tt
       not_working (Some p) is = subst IsAtWork is tt
 
@@ -63,7 +63,7 @@ module _ {S : Type 0} (m : Meaning S) (e : S → ℕ) (t : Task S) (owes : Finds
           none = λ _. (λ n. absurd n, λ longer. absurd (subst IsSome (sym x.plan_is ∙ owes.none.1 longer) tt));
           found = λ _ _. (reverse (made p.walk), x.plan_is, ap₂ Found (sym (length-reverse (made p.walk))) spent);
         }
-    granted_is phase.OutOfPlans is spent x =
+    granted_is phase.NoPlan is spent x =
         let all = x.all_made in
         record {
           working = (λ w. absurd w, λ less. absurd (omega arith));

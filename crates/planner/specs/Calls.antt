@@ -17,6 +17,7 @@ on_state state (Work grant) = Work grant
 on_state state Fetch = Fetch
 on_state state Drop = Drop
 
+-- Whether a planner that is doing this has a task at work.
 abbrev pub at_work : Phase → Bool
 at_work phase.AtWork = true
 at_work doing = false
@@ -58,14 +59,17 @@ module _ {S : Type 0} (m : Meaning S) (e : S → ℕ) where
   doing None = phase.Empty
   doing (Some t) =
       if nat_lt t.granted (search_of t).looks then phase.AtWork
-      else elim (search_of t).plan [ None ↦ phase.OutOfPlans | Some p ↦ phase.Found ]
+      else elim (search_of t).plan [ None ↦ phase.NoPlan | Some p ↦ phase.Found ]
 
+  -- The grants accepted since the load; 0 where there is no task.
   abbrev pub granted_to : Option (Task S) → ℕ
   granted_to None = 0
   granted_to (Some t) = t.granted
 
+  -- The first refusal that applies to a call, where the planner has this task.
   abbrev pub refused : Option (Task S) → Call S → Option Fault
   refused task call = refusal (doing task) (granted_to task) call
 
+  -- The task after a call. A call that is refused leaves it.
   abbrev pub after : Option (Task S) → Call S → Option (Task S)
   after task call = elim (refused task call) [ None ↦ accept task call | Some f ↦ task ]

@@ -10,7 +10,7 @@ use Rattle.planner.specs.declared.answer.Answer.TheVariants as answer
 use Rattle.planner.specs.declared.call.Call.{Call}
 use Rattle.planner.specs.declared.fault.Fault.{Fault}
 use Rattle.planner.specs.declared.phase.Phase.{Phase}
-use Rattle.planner.specs.declared.phase.Phase.TheVariants.{Empty, AtWork, Found, OutOfPlans}
+use Rattle.planner.specs.declared.phase.Phase.TheVariants.{Empty, AtWork, Found, NoPlan}
 use Rattle.planner.specs.declared.planning.Planner.{Planner}
 use Rattle.planner.specs.declared.progress.Progress.{Progress}
 
@@ -19,7 +19,7 @@ abbrev pub report : Phase → ℕ → ℕ → Answer
 report Empty length looks = answer.Working looks
 report AtWork length looks = answer.Working looks
 report Found length looks = answer.Found length looks
-report OutOfPlans length looks = answer.NoPlan looks
+report NoPlan length looks = answer.NoPlan looks
 
 -- How a planner stands after some calls: as the search does after exactly the looks granted.
 
@@ -45,7 +45,7 @@ module _ {S M : Type 0} (m : Meaning S) (state : M → S) (e : S → ℕ) (limit
   Standing Empty looks p = ⊥
   Standing AtWork looks p = Searching looks p
   Standing Found looks p = HasPlan looks p
-  Standing OutOfPlans looks p = HasNone looks
+  Standing NoPlan looks p = HasNone looks
 
 module _ {S M E : Type 0} (m : Meaning S) (state : M → S) (e : S → ℕ) where
   pub record HoldsTask (t : Task S) (p : Planner M E) : Type 0 where

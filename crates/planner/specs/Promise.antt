@@ -43,6 +43,7 @@ module _ {S : Type 0} (m : Meaning S) (e : S → ℕ) where
   Owed (Some t) Fetch old a new = Yields t a new
   Owed task Drop old a new = (a ≡ Accepted) × (new ≡ old)
 
+  -- What is owed to a call, by the first refusal that applies: none, and it is accepted; or this one, which is then answered, and the sheet stays.
   abbrev pub OwedIf : Option Fault → Option (Task S) → Call S → List ℕ → Result Answer Fault → List ℕ → Type 0
   OwedIf None task call old (Ok a) new = Owed task call old a new
   OwedIf None task call old (Err f) new = ⊥

@@ -8,6 +8,7 @@ use Rattle.planner.specs.declared.progress.Progress.{Progress}
 use Rattle.planner.specs.declared.progress.Seen.{Seen}
 use Rattle.planner.specs.declared.progress.Seen.TheVariants.{GoesOn, Home, Ended}
 
+-- The state looked at was not home.
 abbrev pub NotHome : Look → Type 0
 NotHome (cut t) = ⊤
 NotHome (home p) = ⊥
@@ -29,6 +30,7 @@ module _ {S M : Type 0} (m : Meaning S) (state : M → S) (e : S → ℕ) (limit
     pub stands : Stands m state e threshold s left w
     pub is : xs ≡ to_come m e limit s least left
 
+  -- Between two looks, by the threshold: there is none before the first look, and a round is under way after it.
   abbrev pub Waits : Option ℕ → Option ℕ → Walk M → List Look → Type 0
   Waits None least w xs = BeforeFirst least w xs
   Waits (Some threshold) least w xs = InRound threshold least w xs

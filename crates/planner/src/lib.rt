@@ -13,7 +13,7 @@ mod running;
 pub use answer::Answer;
 pub use call::Call;
 pub use fault::Fault;
-pub use planning::{HIGHEST_LIMIT, MOST_AT_ONCE, MOST_GRANTED, Planner};
+pub use planning::{HIGHEST_GRANT, HIGHEST_GRANT_SUM, HIGHEST_LIMIT, Planner};
 pub use played::Played;
 pub use running::play;
 pub use walk::Sheet;

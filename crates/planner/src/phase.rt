@@ -8,5 +8,5 @@ pub(crate) enum Phase {
     // its search has found a plan
     Found,
     // its search has ended, and there is no plan within the limit
-    OutOfPlans,
+    NoPlan,
 }

@@ -19,9 +19,9 @@ use walk::Sheet;
 // The limit of a load, the looks of one grant, and those of all grants since a load are at most these.
 pub const HIGHEST_LIMIT: u8 = 64;
 
-pub const MOST_AT_ONCE: u32 = 1_000_000;
+pub const HIGHEST_GRANT: u32 = 1_000_000;
 
-pub const MOST_GRANTED: u32 = 2_000_000_000;
+pub const HIGHEST_GRANT_SUM: u32 = 2_000_000_000;
 
 // Searches for the fewest turns that bring a machine home, in doses of looks.
 #[derive(Drop)]
@@ -65,10 +65,10 @@ impl<M: Machine + Drop, E: Estimate<M> + Drop> Planner<M, E> {
             (_, Call::Load(_, limit)) if limit > HIGHEST_LIMIT => Err(Fault::Limit),
             (Phase::AtWork, Call::Load(_, _)) => Err(Fault::AtWork),
             (_, Call::Load(machine, limit)) => Ok(self.load(machine, limit)),
-            (Phase::AtWork, Call::Work(grant)) if grant == 0 || grant > MOST_AT_ONCE => {
+            (Phase::AtWork, Call::Work(grant)) if grant == 0 || grant > HIGHEST_GRANT => {
                 Err(Fault::Grant)
             }
-            (Phase::AtWork, Call::Work(grant)) if self.granted + grant > MOST_GRANTED => {
+            (Phase::AtWork, Call::Work(grant)) if self.granted + grant > HIGHEST_GRANT_SUM => {
                 Err(Fault::GrantSum)
             }
             (Phase::AtWork, Call::Work(grant)) => Ok(self.work(grant)),
@@ -144,7 +144,7 @@ impl<M: Machine + Drop, E: Estimate<M> + Drop> Planner<M, E> {
         match self.progress.look(&self.estimate) {
             Seen::GoesOn => {}
             Seen::Home => self.phase = Phase::Found,
-            Seen::Ended => self.phase = Phase::OutOfPlans,
+            Seen::Ended => self.phase = Phase::NoPlan,
         }
     }
 
@@ -155,7 +155,7 @@ impl<M: Machine + Drop, E: Estimate<M> + Drop> Planner<M, E> {
         match self.phase {
             Phase::Empty | Phase::AtWork => Answer::Working(self.looks),
             Phase::Found => Answer::Found(self.progress.walk.depth(), self.looks),
-            Phase::OutOfPlans => Answer::NoPlan(self.looks),
+            Phase::NoPlan => Answer::NoPlan(self.looks),
         }
     }
 

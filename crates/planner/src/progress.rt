@@ -79,7 +79,7 @@ impl<M: Machine + Drop> Progress<M> {
         self.threshold = first_threshold(self.walk.here(), estimate, self.limit);
         match self.threshold {
             None => Seen::Ended,
-            Some(_) => self.keep(),
+            Some(_) => self.look_not_cut(),
         }
     }
 
@@ -91,7 +91,7 @@ impl<M: Machine + Drop> Progress<M> {
     {
         let total = u16::from(self.walk.depth()) + u16::from(estimate.ask(self.walk.here()));
         if total <= u16::from(threshold) {
-            return self.keep();
+            return self.look_not_cut();
         }
         self.least = Some(lesser(self.least, total));
         let on = self.walk.leave();
@@ -99,7 +99,7 @@ impl<M: Machine + Drop> Progress<M> {
     }
 
     // The state is not cut: it is home, or it is continued.
-    fn keep(&mut self) -> Seen
+    fn look_not_cut(&mut self) -> Seen
         ensures { (e : M.State → ℕ) (limit : ℕ) (s : M.State) (threshold : ℕ) (xs : List Look) →
             self.old.threshold ≡ Some threshold →
             length (made self.old.walk) + e (M.state (machine_of self.old.walk)) ≤ threshold →

@@ -1,4 +1,5 @@
 use Rattle.std.specs.Prelude.{◌≡◌, ℕ, ◌≤◌, false, refl}
+use Rattle.std.specs.Option.{unwrap_or}
 use Rattle.std.proofs.Common.{ap, arith}
 use mathlib.Core.HLevel.{is_prop→PathP}
 use Rattle.std.proofs.Math.Bridge.{le_prop}
@@ -8,7 +9,7 @@ use Rattle.trays.specs.Run.{partner}
 use Rattle.trays.proofs.Kind.{Kind}
 use Rattle.trays.proofs.Permuting.{first_in_order}
 use Rattle.ring.specs.declared.kind.TrayRing.{TrayRing}
-use Rattle.ring.specs.Ring.{mirrored, permuted, refitted, ring, start, turn_exchange, turn_moves}
+use Rattle.ring.specs.Ring.{held, mirrored, permuted, refitted, ring, start, turn_exchange, turn_moves}
 
 -- what no turn changes
 abbrev pub base : TrayRing → ℕ × ℕ
@@ -25,6 +26,10 @@ same_ring s t p q =
       span_least = is_prop→PathP (λ i. 2 ≤ (p i).1) (λ i. le_prop) s.span_least t.span_least i;
       span_most = is_prop→PathP (λ i. (p i).1 ≤ (same i).n) (λ i. le_prop) s.span_most t.span_most i;
     }
+
+-- a ring is fixed by what it holds
+pub held_fixed : (s t : TrayRing) → held s ≡ held t → s ≡ t
+held_fixed s t e = same_ring s t (ap (λ h. (h.count, unwrap_or h.span 0)) e) (ap (λ h. h.trays) e)
 
 unfoldable pub ring_kind : Kind number_tray number_regular ring mirrored base
 ring_kind = record {

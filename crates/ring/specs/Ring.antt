@@ -11,8 +11,9 @@ use Rattle.trays.proofs.Permuting.{Permutation, from_test, to_test}
 use Rattle.trays.proofs.Running.{run_move, run_exchange, run_moved}
 use Rattle.ring.specs.declared.kind.TrayRing.{TrayRing}
 
--- A ring's own struct needs these as a tower's does; one struct for both would be no plainer, since the span and its bounds would be facts by cases of the kind.
+-- `towers/specs/Towers.antt` has the same for a tower, whose struct has no span and no bounds on it.
 
+-- The trays of a ring are the numbers 1 to n, each once.
 pub permuted : (s : TrayRing) → Permutation number_tray s.arrangement.n s.arrangement.trays
 permuted s = from_test number_tray number_regular s.arrangement.n s.arrangement.trays s.arrangement.each_once
 
@@ -34,12 +35,15 @@ run_of s from = run_turned number_tray s.arrangement.n s.span from s.arrangement
 abbrev pub start : ℕ → ℕ → ℕ
 start n p = min (p - 1) (n - 1)
 
+-- That place is one of the ring's.
 pub start_within : (s : TrayRing) (p : ℕ) → start s.arrangement.n p < s.arrangement.n
 start_within s p = let l = s.least in omega arith
 
+-- Turn p exchanges places.
 pub turn_exchange : (s : TrayRing) (p : ℕ) → Exchange s.arrangement.n (run_move s.arrangement.n (start s.arrangement.n p) (start_within s p) s.span s.span_most)
 turn_exchange s p = run_exchange s.arrangement.n (start s.arrangement.n p) (start_within s p) s.span s.span_most
 
+-- It moves the trays by that exchange.
 pub turn_moves : (s : TrayRing) (p : ℕ) → Moved number_tray (run_move s.arrangement.n (start s.arrangement.n p) (start_within s p) s.span s.span_most) s.arrangement.trays (run_of s (start s.arrangement.n p))
 turn_moves s p = run_moved s.arrangement.n (start s.arrangement.n p) (start_within s p) s.span s.span_most number_tray s.arrangement.trays (permuted s).long s.arrangement.most number_regular
 

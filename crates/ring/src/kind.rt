@@ -2,7 +2,7 @@ ghost use Rattle.std.specs.Prelude.{◌≤◌};
 
 use trays::Arrangement;
 
-// A ring of trays, the first at place 1. A turn turns round `span` of them. One struct for towers and rings would be no plainer: the span and its bounds would be facts by cases of the kind. So each has the frames of its impls, which call `Arrangement`.
+// A ring of trays, the first at place 1. A turn turns round `span` of them. It is a struct apart from the tower's, since a tower has no span.
 #[derive(Clone, Copy)]
 pub struct TrayRing {
     pub(crate) arrangement: Arrangement<u8>,

@@ -1,5 +1,6 @@
 ghost use Rattle.std.specs.Prelude.{◌≡◌, Some};
 ghost use Rattle.trays.specs.Form.{number_tray};
+ghost use Rattle.ring.specs.Laws.{held_fixed};
 ghost use Rattle.ring.specs.Ring.{held};
 
 use crate::kind::TrayRing;
@@ -25,6 +26,8 @@ impl Settable for TrayRing {
     ghost spanning = { λ k. Some k };
 
     ghost holding = { held };
+
+    ghost fixed = { held_fixed };
 
     ghost first = { Some 2 };
 

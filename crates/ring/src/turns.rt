@@ -31,7 +31,7 @@ impl TrayRing {
     {
         let mut trays = self.arrangement.trays;
         let span = self.span as usize;
-        // A chain would be no plainer: both places are counted by the same j, the one forwards and the other backwards.
+        // Both places are counted by j, the one forwards and the other backwards.
         for j in 0..span {
             trays[self.place_on(from, j)] = self.arrangement.trays[self.place_on(
                 from,
@@ -95,7 +95,6 @@ impl Machine for TrayRing {
         self.arrangement.is_home()
     }
 
-    // A tower's turn has the same shape. One body for both would be no plainer: it would have to be given the turn that each makes, with what that asks and says.
     fn turn(&mut self, p: u8) -> Result<(), Fault> {
         if !self.range().contains(p) {
             return Err(Fault::NoSuchTurn);

@@ -37,6 +37,7 @@ cuts (cut t ∷ xs) = t ∷ cuts xs
 cuts (home p ∷ xs) = cuts xs
 cuts (continued ∷ xs) = cuts xs
 
+-- The least total that was cut, if any was.
 abbrev pub least_cut : List Look → Option ℕ
 least_cut xs = reduce min (cuts xs)
 
@@ -81,6 +82,7 @@ pub record Search : Type 0 where
   pub looks : ℕ
   pub plan : Option (List ℕ)
 
+-- The search with these looks.
 abbrev pub searched : List Look → Search
 searched xs = record { looks = length xs; plan = plan xs }
 
@@ -104,5 +106,6 @@ module _ {S : Type 0} (m : Meaning S) (e : S → ℕ) (limit : ℕ) (s : S) wher
   abbrev pub all_looks : List Look
   all_looks = elim (allowed limit (e s)) [ None ↦ cut (e s) ∷ [] | Some t ↦ rounds_from t ]
 
+  -- The search from a state within the limit.
   abbrev pub search : Search
   search = searched all_looks

@@ -8,7 +8,7 @@ use Rattle.tape.specs.declared.fault.Fault.{Fault}
 use Rattle.tape.specs.declared.fault.Fault.TheVariants.{TapeLength, Place, ReplyRoom, UnknownCommand, OperandsCut, Machine, Planner}
 use Rattle.tape.specs.declared.fault.Refusal.{Refusal}
 
--- What is told of a fault: the layer that refuses, and the number of the refusal.
+-- What is told of a fault: the layer byte, which says which part refuses, and the number of the refusal.
 pub record Told : Type 0 where
   pub layer : ℕ
   pub number : ℕ

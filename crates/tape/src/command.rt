@@ -1,5 +1,5 @@
-ghost use Rattle.std.specs.Prelude.{◌≡◌, ◌<◌, ◌==◌, ◌≤◌, ◌∷◌, ◌++◌, length, drop, MatchResult, Some};
-ghost use Rattle.tape.specs.Commands.{Begins, Reads, Unreadable, letter_of, width, width_after};
+ghost use Rattle.std.specs.Prelude.{◌≡◌, ◌<◌, ◌==◌, ◌∷◌, ◌++◌, length, drop, MatchResult};
+ghost use Rattle.tape.specs.Commands.{Begins, Reads, Unreadable, width};
 ghost use Rattle.tape.specs.declared.fault.Fault.TheVariants.{OperandsCut};
 
 use crate::fault::Fault;
@@ -53,8 +53,7 @@ impl<'a> Command<'a> {
 
     // How many operand bytes it has.
     pub fn width(&self) -> usize
-        ensures width { result ≡ width self.now }
-        ensures by_letter { width_after (letter_of self.now) ≡ Some (width self.now) }
+        ensures { result ≡ width self.now }
     {
         match self {
             Command::Plain(_) | Command::Sided(_) => 34,

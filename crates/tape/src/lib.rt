@@ -9,4 +9,4 @@ mod reply;
 pub use command::Command;
 pub use fault::{Fault, Refusal};
 pub use placed::Placed;
-pub use reply::{MOST_BYTES, write_reply};
+pub use reply::{LONGEST_REPLY, write_reply};

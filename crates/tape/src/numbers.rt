@@ -4,7 +4,7 @@ ghost use Rattle.tape.specs.Replies.{refusal_bytes, told};
 use crate::fault::{Fault, Refusal};
 
 impl Fault {
-    // The layer that refuses.
+    // The layer byte, which says which part refuses.
     pub fn layer(self) -> u8
         ensures { result ≡ (told self).layer }
     {

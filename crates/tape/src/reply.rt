@@ -5,13 +5,13 @@ use crate::fault::Refusal;
 use planner::{Answer, Sheet};
 
 // No reply has more bytes than this.
-pub const MOST_BYTES: usize = 66;
+pub const LONGEST_REPLY: usize = 66;
 
 // Writes a reply, and gives the number of its bytes; those past them stay. A fetch is told with the sheet.
 pub fn write_reply(
     reply: Result<Answer, Refusal>,
     sheet: &Sheet,
-    bytes: &mut [u8; MOST_BYTES],
+    bytes: &mut [u8; LONGEST_REPLY],
 ) -> usize
     ensures count { result ≡ length (reply_bytes reply sheet.now) }
     ensures written { bytes.new ≡ reply_bytes reply sheet.now ++ drop (length (reply_bytes reply sheet.now)) bytes.old }
@@ -33,14 +33,14 @@ pub fn write_reply(
         Ok(Answer::Fetched(length)) => {
             put(bytes, &[b'T', length]);
             bytes[2..].copy_from_slice(sheet);
-            MOST_BYTES
+            LONGEST_REPLY
         }
         Err(refusal) => put(bytes, &refusal.bytes()),
     }
 }
 
 // Writes these bytes at the beginning, and gives their number.
-fn put(buffer: &mut [u8; MOST_BYTES], bytes: &[u8]) -> usize
+fn put(buffer: &mut [u8; LONGEST_REPLY], bytes: &[u8]) -> usize
     requires { length bytes.now ≤ 66 }
     ensures count { result ≡ length bytes.now }
     ensures written { buffer.new ≡ bytes.now ++ drop (length bytes.now) buffer.old }

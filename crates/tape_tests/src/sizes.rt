@@ -3,7 +3,7 @@ use crate::desk::{UNTOUCHED, ask, behind_drops, written};
 use console::{Console, LONGEST_TAPE, replies};
 use std::process::Abort;
 use std::test::*;
-use tape::{Fault, MOST_BYTES, Refusal};
+use tape::{Fault, LONGEST_REPLY, Refusal};
 
 #[test]
 fn no_bytes(rt: HostRuntime) -> Result<(), Fail> {
@@ -81,7 +81,7 @@ fn refuse(
 // What is refused as a whole leaves the task.
 #[test]
 fn calls(rt: HostRuntime) -> Result<(), Fail> {
-    assert_eq!(rt; MOST_BYTES, 66);
+    assert_eq!(rt; LONGEST_REPLY, 66);
     let load = tower(b'P', 64, 3, &[1, 3, 2]);
     let long = vec![in rt.alloc(); b'D'; 4097]?;
     let mut console = Console::new(rt.alloc())?;

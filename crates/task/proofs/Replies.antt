@@ -1,6 +1,7 @@
-use Rattle.std.proofs.Common.{◌≡◌, ℕ, zero, suc, ◌+◌, ◌*◌, ◌≤◌, ◌<◌, ◌-◌, min, List, [], ◌∷◌, ◌++◌, length, map, replicate, take, vec_items, Option, Some, None, Result, Ok, Err, refl, sym, ap, ◌∙◌, subst, arith, ⊎_elim, nat_lt}
-use Rattle.std.proofs.lemmas.Bool.{cases_lt, cond-true, cond-false, lt-ltb, le-ltb}
+use Rattle.std.proofs.Common.{◌≡◌, ℕ, ◌+◌, ◌≤◌, ◌<◌, ◌-◌, min, ◌==◌, ◌||◌, List, [], ◌∷◌, ◌++◌, length, map, replicate, take, vec_items, Option, Some, None, Result, Ok, Err, sum, refl, sym, ap, ◌∙◌, subst, arith, ⊎_elim, nat_lt}
+use Rattle.std.proofs.lemmas.Bool.{cases_lt, cond-true, cond-false, lt-ltb, le-ltb, ne_eqb}
 use Rattle.std.proofs.lemmas.List.{take_all, take-append-le}
+use Rattle.std.proofs.lemmas.List.Sums.{sum_by-cons}
 use Rattle.std.specs.Result.{result_err}
 use Rattle.machine.specs.Follows.{Follows}
 use Rattle.machine.specs.declared.trace.Trace.{Trace}
@@ -22,9 +23,9 @@ use Rattle.planner.specs.declared.phase.Phase.TheVariants as phase
 use Rattle.planner.specs.declared.played.Played.{Played}
 use Rattle.task.specs.declared.planning.Verdict.{Verdict}
 use Rattle.task.specs.declared.planning.Verdict.TheVariants.{Unfinished, Found, NoPlan}
-use Rattle.task.proofs.Calls.{map_calls}
+use Rattle.task.proofs.Calls.{Accepted, grants_accepted, grants_sum, map_calls}
 use Rattle.task.specs.Plans.{FoundPlan}
-use Rattle.task.specs.Verdicts.{calls_within, heard, verdict_after, sheet_after, first_refusal}
+use Rattle.task.specs.Verdicts.{calls_within, grants, heard, verdict_after, sheet_after, first_refusal}
 
 -- What the replies to the calls of a whole search tell.
 
@@ -50,53 +51,54 @@ module _ {S : Type 0} (m : Meaning S) (e : S → ℕ) where
 
   -- What a planner is doing once the search has ended.
   abbrev ending : Option (List ℕ) → Phase
-  ending None = phase.OutOfPlans
+  ending None = phase.NoPlan
   ending (Some p) = phase.Found
 
   over : (t : Task S) → (search_of m e t).looks ≤ t.granted → doing m e (Some t) ≡ ending (search_of m e t).plan
   over t le = cond-false (nat_lt t.granted (search_of m e t).looks) _ _ (le-ltb t.granted (search_of m e t).looks le)
 
   -- A grant is accepted while the search goes on, and refused when it has ended.
-  accepted : (t : Task S) → t.granted < (search_of m e t).looks → t.granted + 1000000 ≤ 2000000000 → refused m e (Some t) (Work 1000000) ≡ None
-  accepted t less room =
-      ap (λ ph. refusal {S = S} ph t.granted (Work 1000000)) (at_work t less)
-      ∙ cond-false (nat_lt 2000000000 (t.granted + 1000000)) _ _ (le-ltb 2000000000 (t.granted + 1000000) room)
+  accepted : (t : Task S) (g : ℕ) → 0 < g → g ≤ 1000000 → t.granted < (search_of m e t).looks → t.granted + g ≤ 2000000000 → refused m e (Some t) (Work g) ≡ None
+  accepted t g some small less room =
+      ap (λ ph. refusal {S = S} ph t.granted (Work g)) (at_work t less)
+      ∙ cond-false ((g == 0) || nat_lt 1000000 g) _ _ (rw (ne_eqb g 0 (omega arith), le-ltb 1000000 g small) refl)
+      ∙ cond-false (nat_lt 2000000000 (t.granted + g)) _ _ (le-ltb 2000000000 (t.granted + g) room)
 
-  no_task : (o : Option (List ℕ)) (granted : ℕ) → refusal {S = S} (ending o) granted (Work 1000000) ≡ Some NoTask
-  no_task None granted = refl
-  no_task (Some p) granted = refl
+  no_task : (o : Option (List ℕ)) (granted g : ℕ) → refusal {S = S} (ending o) granted (Work g) ≡ Some NoTask
+  no_task None granted g = refl
+  no_task (Some p) granted g = refl
 
-  turned_down : (t : Task S) → (search_of m e t).looks ≤ t.granted → refused m e (Some t) (Work 1000000) ≡ Some NoTask
-  turned_down t le = ap (λ ph. refusal {S = S} ph t.granted (Work 1000000)) (over t le) ∙ no_task (search_of m e t).plan t.granted
+  turned_down : (t : Task S) (g : ℕ) → (search_of m e t).looks ≤ t.granted → refused m e (Some t) (Work g) ≡ Some NoTask
+  turned_down t g le = ap (λ ph. refusal {S = S} ph t.granted (Work g)) (over t le) ∙ no_task (search_of m e t).plan t.granted g
 
   -- The task with one grant more, and what that grant is told.
-  abbrev more : Task S → Task S
-  more t = record { start = t.start; limit = t.limit; granted = t.granted + 1000000 }
+  abbrev more : Task S → ℕ → Task S
+  more t g = record { start = t.start; limit = t.limit; granted = t.granted + g }
 
-  all_told : (t : Task S) → ((more t).granted < (search_of m e t).looks → ⊥) → (search_of m e t).looks ≤ (more t).granted
-  all_told t not_less = ⊎_elim (λ less. absurd (not_less less)) (λ le. le) (cases_lt (more t).granted (search_of m e t).looks)
+  all_told : (t : Task S) (g : ℕ) → ((more t g).granted < (search_of m e t).looks → ⊥) → (search_of m e t).looks ≤ (more t g).granted
+  all_told t g not_less = ⊎_elim (λ less. absurd (not_less less)) (λ le. le) (cases_lt (more t g).granted (search_of m e t).looks)
 
-  told_more : (t : Task S) (v : Verdict) (old new : List ℕ) (reply : Result Answer Fault) → OwedIf m e None (Some t) (Work 1000000) old reply new → Known (more t) (heard v reply)
-  told_more t v old new (Ok (answer.Working looks)) h =
-      let g = h.0 in
-      let less = g.working.0 tt in
-      let made : looks ≡ min (t.granted + 1000000) (search_of m e t).looks = cc (g.looks) in
+  told_more : (t : Task S) (g : ℕ) (v : Verdict) (old new : List ℕ) (reply : Result Answer Fault) → OwedIf m e None (Some t) (Work g) old reply new → Known (more t g) (heard v reply)
+  told_more t g v old new (Ok (answer.Working looks)) h =
+      let told = h.0 in
+      let less = told.working.0 tt in
+      let made : looks ≡ min (t.granted + g) (search_of m e t).looks = cc (told.looks) in
       (omega arith, less)
-  told_more t v old new (Ok (answer.Found n looks)) h =
-      let g = h.0 in
-      let made : looks ≡ min (t.granted + 1000000) (search_of m e t).looks = cc (g.looks) in
-      let all = all_told t g.working.1 in
-      let found = g.found (λ w. w) (λ w. w) in
+  told_more t g v old new (Ok (answer.Found n looks)) h =
+      let told = h.0 in
+      let made : looks ≡ min (t.granted + g) (search_of m e t).looks = cc (told.looks) in
+      let all = all_told t g told.working.1 in
+      let found = told.found (λ w. w) (λ w. w) in
       let long : n ≡ length found.0 = cc (found.2) in
       (record { all_granted = all; all_made = omega arith }, (found.0, long, found.1))
-  told_more t v old new (Ok (answer.NoPlan looks)) h =
-      let g = h.0 in
-      let made : looks ≡ min (t.granted + 1000000) (search_of m e t).looks = cc (g.looks) in
-      let all = all_told t g.working.1 in
-      (record { all_granted = all; all_made = omega arith }, (g.none (λ w. w)).0 tt)
-  told_more t v old new (Ok answer.Accepted) h = let g = h.0 in absurd (cc (g.looks))
-  told_more t v old new (Ok (answer.Fetched n)) h = let g = h.0 in absurd (cc (g.looks))
-  told_more t v old new (Err f) h = absurd h
+  told_more t g v old new (Ok (answer.NoPlan looks)) h =
+      let told = h.0 in
+      let made : looks ≡ min (t.granted + g) (search_of m e t).looks = cc (told.looks) in
+      let all = all_told t g told.working.1 in
+      (record { all_granted = all; all_made = omega arith }, (told.none (λ w. w)).0 tt)
+  told_more t g v old new (Ok answer.Accepted) h = let told = h.0 in absurd (cc (told.looks))
+  told_more t g v old new (Ok (answer.Fetched n)) h = let told = h.0 in absurd (cc (told.looks))
+  told_more t g v old new (Err f) h = absurd h
 
   -- The plan that stands in a sheet.
   pub record Written (limit : ℕ) (s : S) (n : ℕ) (sheet : List ℕ) : Type 0 where
@@ -109,21 +111,21 @@ module _ {S : Type 0} (m : Meaning S) (e : S → ℕ) where
   -- What the last verdict and the last sheet tell, where so many looks are granted in all.
   abbrev pub Tells : ℕ → S → ℕ → Verdict → List ℕ → Type 0
   Tells limit s total (Unfinished looks) sheet = (looks ≡ total) × (total < (search m e limit s).looks)
-  Tells limit s total (Found n looks) sheet = (looks ≡ (search m e limit s).looks) × Written limit s n sheet
-  Tells limit s total (NoPlan looks) sheet = (looks ≡ (search m e limit s).looks) × AllLonger m limit s
+  Tells limit s total (Found n looks) sheet = (looks ≤ total) × (looks ≡ (search m e limit s).looks) × Written limit s n sheet
+  Tells limit s total (NoPlan looks) sheet = (looks ≤ total) × AllLonger m limit s × (looks ≡ (search m e limit s).looks)
 
   -- The fetch at the end changes no verdict: it is refused, or yields the plan.
   not_fetched : (t : Task S) (v : Verdict) (old : List ℕ) (r : Played) (P : Verdict → Type 0) → refused m e (Some t) Fetch ≡ Some NotFound → Run m e (Some t) old (Fetch ∷ []) (r ∷ []) → P v → P (heard v r.reply)
   not_fetched t v old r P is run known =
       subst (λ reply. P (heard v reply)) (sym (by_refusal (Some t) Fetch old [] r [] (Some NotFound) is run).0.0) known
 
-  yields_plan : (t : Task S) (n looks total : ℕ) (p old new : List ℕ) (reply : Result Answer Fault) → looks ≡ (search_of m e t).looks → n ≡ length p → (search_of m e t).plan ≡ Some p →
+  yields_plan : (t : Task S) (n looks total : ℕ) (p old new : List ℕ) (reply : Result Answer Fault) → looks ≤ total → looks ≡ (search_of m e t).looks → n ≡ length p → (search_of m e t).plan ≡ Some p →
       OwedIf m e None (Some t) Fetch old reply new → Tells t.limit t.start total (heard (Found n looks) reply) new
-  yields_plan t n looks total p old new (Ok a) made long is h =
+  yields_plan t n looks total p old new (Ok a) within made long is h =
       let same : p ≡ h.turns = cc (is, h.searched) in
       subst (λ b. Tells t.limit t.start total (heard (Found n looks) (Ok b)) new) (sym h.answer)
-      (made, record { turns = h.turns; long = long ∙ ap length same; sheet_is = h.sheet_is; searched = h.searched; shortest = h.shortest })
-  yields_plan t n looks total p old new (Err f) made long is h = absurd h
+      (within, made, record { turns = h.turns; long = long ∙ ap length same; sheet_is = h.sheet_is; searched = h.searched; shortest = h.shortest })
+  yields_plan t n looks total p old new (Err f) within made long is h = absurd h
 
   no_other : (t : Task S) (old new : List ℕ) (reply : Result Answer Fault) → AllLonger m t.limit t.start → OwedIf m e None (Some t) Fetch old reply new → ⊥
   no_other t old new (Ok a) far h = let within = h.shortest.within in let long = far h.turns h.shortest.brings in omega arith
@@ -133,7 +135,7 @@ module _ {S : Type 0} (m : Meaning S) (e : S → ℕ) where
   no_plan t looks old r None is known run =
       not_fetched t (NoPlan looks) old r (λ v. Tells t.limit t.start t.granted v r.sheet)
       (ap (λ ph. refusal {S = S} ph t.granted Fetch) (over t known.0.all_granted ∙ ap ending is)) run
-      (known.0.all_made, known.1)
+      (let made = known.0.all_made in let all = known.0.all_granted in omega arith, known.1, known.0.all_made)
   no_plan t looks old r (Some p) is known run =
       absurd (no_other t old r.sheet r.reply known.1
       (by_refusal (Some t) Fetch old [] r [] None (ap (λ ph. refusal {S = S} ph t.granted Fetch) (over t known.0.all_granted ∙ ap ending is)) run).0)
@@ -142,64 +144,66 @@ module _ {S : Type 0} (m : Meaning S) (e : S → ℕ) where
   fetched t (Unfinished looks) old r known run =
       not_fetched t (Unfinished looks) old r (λ v. Tells t.limit t.start t.granted v r.sheet) (ap (λ ph. refusal {S = S} ph t.granted Fetch) (at_work t known.1)) run known
   fetched t (Found n looks) old r known run =
-      yields_plan t n looks t.granted known.1.0 old r.sheet r.reply known.0.all_made known.1.1 known.1.2
+      yields_plan t n looks t.granted known.1.0 old r.sheet r.reply (let made = known.0.all_made in let all = known.0.all_granted in omega arith) known.0.all_made known.1.1 known.1.2
       (by_refusal (Some t) Fetch old [] r [] None (ap (λ ph. refusal {S = S} ph t.granted Fetch) (over t known.0.all_granted ∙ ap ending known.1.2)) run).0
   fetched t (NoPlan looks) old r known run = no_plan t looks old r (search_of m e t).plan refl known run
 
   -- how many looks are granted in all matters only where the search has not ended
-  by_total : (limit : ℕ) (s : S) (total all : ℕ) (v : Verdict) (sheet : List ℕ) → (total < (search m e limit s).looks → total ≡ all) → Tells limit s total v sheet → Tells limit s all v sheet
-  by_total limit s total all (Unfinished looks) sheet same h = let is = same h.1 in let less = h.1 in (omega arith, omega arith)
-  by_total limit s total all (Found n looks) sheet same h = h
-  by_total limit s total all (NoPlan looks) sheet same h = h
+  by_total : (limit : ℕ) (s : S) (total all : ℕ) (v : Verdict) (sheet : List ℕ) → total ≤ all → (total < (search m e limit s).looks → total ≡ all) → Tells limit s total v sheet → Tells limit s all v sheet
+  by_total limit s total all (Unfinished looks) sheet within same h = let is = same h.1 in let less = h.1 in (omega arith, omega arith)
+  by_total limit s total all (Found n looks) sheet within same h = (omega (arith, h.0), h.1, h.2)
+  by_total limit s total all (NoPlan looks) sheet within same h = (omega (arith, h.0), h.1, h.2)
 
-  -- So many grants are still to come, and then the fetch. Once the search has ended the grants are refused.
-  all_granted : (n : ℕ) (t : Task S) (v : Verdict) (all : ℕ) (old : List ℕ) (rs : List Played) → Known t v → t.granted + n * 1000000 ≤ 2000000000 → (t.granted < (search_of m e t).looks → t.granted + n * 1000000 ≡ all) →
-      Run m e (Some t) old (replicate n (Work 1000000) ++ Fetch ∷ []) rs → Tells t.limit t.start all (verdict_after v rs) (sheet_after old rs)
-  all_granted zero t v all old [] known room same run = absurd run
-  all_granted zero t v all old (r ∷ []) known room same run =
-      by_total t.limit t.start t.granted all (heard v r.reply) r.sheet (λ less. let is = same less in omega arith) (fetched t v old r known run)
-  all_granted zero t v all old (r ∷ q ∷ rs) known room same run = absurd run.1
-  all_granted (suc n) t v all old [] known room same run = absurd run
-  all_granted (suc n) t v all old (r ∷ rs) known room same run =
+  -- These grants are still to come, and then the fetch. Once the search has ended the grants are refused.
+  all_granted : (gs : List ℕ) (t : Task S) (v : Verdict) (all : ℕ) (old : List ℕ) (rs : List Played) → Known t v → Accepted gs → all ≤ 2000000000 → t.granted ≤ all → (t.granted < (search_of m e t).looks → t.granted + sum gs ≡ all) →
+      Run m e (Some t) old (map Work gs ++ Fetch ∷ []) rs → Tells t.limit t.start all (verdict_after v rs) (sheet_after old rs)
+  all_granted [] t v all old [] known small room within same run = absurd run
+  all_granted [] t v all old (r ∷ []) known small room within same run =
+      by_total t.limit t.start t.granted all (heard v r.reply) r.sheet within (λ less. let is = same less in omega arith) (fetched t v old r known run)
+  all_granted [] t v all old (r ∷ q ∷ rs) known small room within same run = absurd run.1
+  all_granted (g ∷ gs) t v all old [] known small room within same run = absurd run
+  all_granted (g ∷ gs) t v all old (r ∷ rs) known small room within same run =
       ⊎_elim
       (λ (less : t.granted < (search_of m e t).looks).
       let is = same less in
-      let next = by_refusal (Some t) (Work 1000000) old (replicate n (Work 1000000) ++ Fetch ∷ []) r rs None (accepted t less (omega arith)) run in
-      all_granted n (more t) (heard v r.reply) all r.sheet rs (told_more t v old r.sheet r.reply next.0) (omega arith) (λ _. omega arith) next.1)
+      let first = sum_by-cons (λ x. x) g gs in
+      let next = by_refusal (Some t) (Work g) old (map Work gs ++ Fetch ∷ []) r rs None (accepted t g small.0 small.1 less (omega arith)) run in
+      all_granted gs (more t g) (heard v r.reply) all r.sheet rs (told_more t g v old r.sheet r.reply next.0) small.2 room (omega arith) (λ _. omega arith) next.1)
       (λ (le : (search_of m e t).looks ≤ t.granted).
-      let next = by_refusal (Some t) (Work 1000000) old (replicate n (Work 1000000) ++ Fetch ∷ []) r rs (Some NoTask) (turned_down t le) run in
-      all_granted n t (heard v r.reply) all r.sheet rs (subst (λ reply. Known t (heard v reply)) (sym next.0.0) known) (omega arith) (λ less. absurd (omega arith)) next.1)
+      let next = by_refusal (Some t) (Work g) old (map Work gs ++ Fetch ∷ []) r rs (Some NoTask) (turned_down t g le) run in
+      all_granted gs t (heard v r.reply) all r.sheet rs (subst (λ reply. Known t (heard v reply)) (sym next.0.0) known) small.2 room within (λ less. absurd (omega arith)) next.1)
       (cases_lt t.granted (search_of m e t).looks)
 
-  -- What comes of a whole search: the load is refused, or all looks are granted that may be.
-  abbrev pub Comes : ℕ → S → Option Fault → Verdict → List ℕ → Type 0
-  Comes limit s (Some f) v sheet = (f ≡ Limit) × (64 < limit)
-  Comes limit s None v sheet = (limit ≤ 64) × Tells limit s 2000000000 v sheet
+  -- What comes of a search by so many looks: the load is refused, or they are all granted.
+  abbrev pub Comes : ℕ → ℕ → S → Option Fault → Verdict → List ℕ → Type 0
+  Comes looks limit s (Some f) v sheet = (f ≡ Limit) × (64 < limit)
+  Comes looks limit s None v sheet = (limit ≤ 64) × Tells limit s looks v sheet
 
   loaded : (limit : ℕ) (s : S) (old new : List ℕ) (reply : Result Answer Fault) → OwedIf m e None None (Load s limit) old reply new → reply ≡ Ok answer.Accepted
   loaded limit s old new (Ok a) h = ap Ok h.0
   loaded limit s old new (Err f) h = absurd h
 
-  whole_run : (limit : ℕ) (s : S) (blank : List ℕ) (rs : List Played) → Run m e None blank (Load s limit ∷ (replicate 2000 (Work 1000000) ++ Fetch ∷ [])) rs → Comes limit s (first_refusal rs) (verdict_after (Unfinished 0) rs) (sheet_after blank rs)
-  whole_run limit s blank [] run = absurd run
-  whole_run limit s blank (r ∷ rs) run =
+  whole_run : (looks limit : ℕ) (s : S) (blank : List ℕ) (rs : List Played) → looks ≤ 2000000000 → Run m e None blank (Load s limit ∷ (map Work (grants looks) ++ Fetch ∷ [])) rs → Comes looks limit s (first_refusal rs) (verdict_after (Unfinished 0) rs) (sheet_after blank rs)
+  whole_run looks limit s blank [] room run = absurd run
+  whole_run looks limit s blank (r ∷ rs) room run =
       ⊎_elim
       (λ (high : 64 < limit).
-      let next = by_refusal None (Load s limit) blank (replicate 2000 (Work 1000000) ++ Fetch ∷ []) r rs (Some Limit) (cond-true (nat_lt 64 limit) _ _ (lt-ltb 64 limit high)) run in
-      subst (λ reply. Comes limit s (result_err reply) (verdict_after (heard (Unfinished 0) reply) rs) (sheet_after r.sheet rs)) (sym next.0.0) (refl, high))
+      let next = by_refusal None (Load s limit) blank (map Work (grants looks) ++ Fetch ∷ []) r rs (Some Limit) (cond-true (nat_lt 64 limit) _ _ (lt-ltb 64 limit high)) run in
+      subst (λ reply. Comes looks limit s (result_err reply) (verdict_after (heard (Unfinished 0) reply) rs) (sheet_after r.sheet rs)) (sym next.0.0) (refl, high))
       (λ (low : limit ≤ 64).
-      let next = by_refusal None (Load s limit) blank (replicate 2000 (Work 1000000) ++ Fetch ∷ []) r rs None (cond-false (nat_lt 64 limit) _ _ (le-ltb 64 limit low)) run in
+      let next = by_refusal None (Load s limit) blank (map Work (grants looks) ++ Fetch ∷ []) r rs None (cond-false (nat_lt 64 limit) _ _ (le-ltb 64 limit low)) run in
       let some = some_looks m e limit s in
-      subst (λ reply. Comes limit s (result_err reply) (verdict_after (heard (Unfinished 0) reply) rs) (sheet_after r.sheet rs)) (sym (loaded limit s blank r.sheet r.reply next.0))
-      (low, all_granted 2000 (record { start = s; limit = limit; granted = 0 }) (Unfinished 0) 2000000000 r.sheet rs (refl, omega arith) (omega arith) (λ _. omega arith) next.1))
+      let whole = grants_sum looks in
+      subst (λ reply. Comes looks limit s (result_err reply) (verdict_after (heard (Unfinished 0) reply) rs) (sheet_after r.sheet rs)) (sym (loaded limit s blank r.sheet r.reply next.0))
+      (low, all_granted (grants looks) (record { start = s; limit = limit; granted = 0 }) (Unfinished 0) looks r.sheet rs (refl, omega arith) (grants_accepted looks) room (omega arith) (λ _. omega arith) next.1))
       (cases_lt 64 limit)
 
-  pub comes : {M : Type 0} (state : M → S) (x : M) (limit : ℕ) (rs : List Played) (o : Option Fault) (v : Verdict) → first_refusal rs ≡ o → verdict_after (Unfinished 0) rs ≡ v →
-      Run m e None (replicate 64 0) (map (on_state state) (calls_within x limit)) rs → Comes limit (state x) o v (sheet_after (replicate 64 0) rs)
-  comes state x limit rs o v first last run =
-      subst (λ u. Comes limit (state x) o u (sheet_after (replicate 64 0) rs)) last
-      (subst (λ o. Comes limit (state x) o (verdict_after (Unfinished 0) rs) (sheet_after (replicate 64 0) rs)) first
-      (whole_run limit (state x) (replicate 64 0) rs (subst (λ cs. Run m e None (replicate 64 0) cs rs) (map_calls state x limit) run)))
+  pub comes : {M : Type 0} (state : M → S) (x : M) (limit looks : ℕ) (rs : List Played) (o : Option Fault) (v : Verdict) → first_refusal rs ≡ o → verdict_after (Unfinished 0) rs ≡ v → looks ≤ 2000000000 →
+      Run m e None (replicate 64 0) (map (on_state state) (calls_within x limit looks)) rs → Comes looks limit (state x) o v (sheet_after (replicate 64 0) rs)
+  comes state x limit looks rs o v first last room run =
+      subst (λ u. Comes looks limit (state x) o u (sheet_after (replicate 64 0) rs)) last
+      (subst (λ o. Comes looks limit (state x) o (verdict_after (Unfinished 0) rs) (sheet_after (replicate 64 0) rs)) first
+      (whole_run looks limit (state x) (replicate 64 0) rs room (subst (λ cs. Run m e None (replicate 64 0) cs rs) (map_calls state x limit looks) run)))
 
   -- the first turns of the sheet are the plan, and following them ends at home
   pub found_plan : {M : Type 0} (state : M → S) (limit : ℕ) (s : S) (n looks : ℕ) (sheet read turns : List ℕ) (trace : Trace M) → looks ≡ (search m e limit s).looks → Written limit s n sheet → read ≡ sheet → turns ≡ take n read →

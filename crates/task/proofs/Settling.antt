@@ -1,4 +1,4 @@
-use Rattle.std.proofs.Common.{List, Err}
+use Rattle.std.proofs.Common.{List, Err, inr}
 use Rattle.text.specs.declared.word.Word.{Word}
 use Rattle.task.specs.declared.failure.Failure.{Failure}
 use Rattle.task.specs.declared.failure.Failure.TheVariants.{Unexpected, Refused, NoMemory}
@@ -8,4 +8,4 @@ use Rattle.task.specs.Outcomes.{Replies, Requested}
 pub replies_failed : (ws : List Word) (f : Failure) → Requested ws (Err f) → Replies ws (Err f)
 replies_failed ws (Unexpected at expected) r = absurd r.settled
 replies_failed ws (Refused kind fault) r = r
-replies_failed ws NoMemory r = tt
+replies_failed ws NoMemory r = inr r

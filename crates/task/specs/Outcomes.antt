@@ -1,4 +1,4 @@
-use Rattle.std.specs.Prelude.{◌≡◌, ⊤, ℕ, ◌<◌, List, [], map, Some, None, Option, Ok, Err, Result, ◌≢◌, slice_index}
+use Rattle.std.specs.Prelude.{◌≡◌, ⊤, ℕ, ◌<◌, ◌⊎◌, List, [], map, Some, None, Option, Ok, Err, Result, ◌≢◌, slice_index}
 use Rattle.std.specs.Option.{unwrap_or}
 use Rattle.gaps.specs.Counts.{gaps, breakpoints, half_gaps}
 use Rattle.machine.specs.declared.fault.Fault.{Fault}
@@ -8,28 +8,20 @@ use Rattle.towers.specs.Tray.{sided_tray}
 use Rattle.text.specs.declared.word.Kind.{Kind}
 use Rattle.text.specs.declared.word.Kind.TheVariants as kind
 use Rattle.text.specs.declared.word.Word.{Word}
-use Rattle.text.specs.Lines.{Asked, Stuck, Written}
-use Rattle.text.specs.Stacks.{tray_count}
+use Rattle.text.specs.Lines.{Asked, Stuck, Unkept, Written}
+use Rattle.text.specs.TrayCounts.{tray_count}
 use Rattle.text.specs.Words.{Words}
-use Rattle.trays.specs.Form.{TrayForm, number_tray}
-use Rattle.trays.specs.Setting.{Holding, Refused}
+use Rattle.trays.specs.Form.{number_tray}
+use Rattle.trays.specs.Setting.{CanHold, Refused, in_ring, in_tower}
 use Rattle.task.specs.declared.failure.Failure.{Failure}
 use Rattle.task.specs.declared.failure.Failure.TheVariants as failure
 use Rattle.task.specs.declared.outcome.Outcome.{Outcome}
 use Rattle.task.specs.declared.outcome.Outcome.TheVariants.{Plain, Sided, Ring}
-use Rattle.task.specs.Work.{Attempted}
+use Rattle.task.specs.Work.{AsksMemory, Attempted}
 
 -- The 32 bytes of these trays, with 0 after the last.
 abbrev pub Bytes : List ℕ → List ℕ → Type 0
 Bytes trays bytes = (k : ℕ) → k < 32 → slice_index bytes k ≡ slice_index trays k
-
--- What a tower is to hold that is set from n and these bytes.
-abbrev pub in_tower : {A : Type 0} → TrayForm A → ℕ → List ℕ → Holding A
-in_tower f n bytes = record { count = n; span = None; trays = map f.read bytes }
-
--- What a ring is to hold that is set from n, this span and these bytes. Every line of a ring has a span, so the 0 is never taken.
-abbrev pub in_ring : ℕ → Option ℕ → List ℕ → Holding ℕ
-in_ring n span bytes = record { count = n; span = Some (unwrap_or span 0); trays = map number_tray.read bytes }
 
 -- Why no machine of this kind is set from n, this span and these bytes.
 abbrev pub RefusedAs : Kind → ℕ → Option ℕ → List ℕ → Fault → Type 0
@@ -37,14 +29,20 @@ RefusedAs kind.Plain n span bytes fault = Refused number_tray 1 n None (map numb
 RefusedAs kind.Sided n span bytes fault = Refused sided_tray 1 n None (map sided_tray.read bytes) fault
 RefusedAs kind.Ring n span bytes fault = Refused number_tray 4 n (Some (unwrap_or span 0)) (map number_tray.read bytes) fault
 
+-- Every rule for setting a machine of this kind from n, this span and these bytes is kept. Every line of a ring has a span, so the 0 is never taken.
+abbrev pub CanBeSet : Kind → ℕ → Option ℕ → List ℕ → Type 0
+CanBeSet kind.Plain n span bytes = CanHold number_tray 1 (in_tower number_tray n bytes)
+CanBeSet kind.Sided n span bytes = CanHold sided_tray 1 (in_tower sided_tray n bytes)
+CanBeSet kind.Ring n span bytes = CanHold number_tray 4 (in_ring n (unwrap_or span 0) bytes)
+
 -- What is done for a machine of this kind, of n trays, with this span and these bytes, and this task.
 abbrev pub Settled : Kind → ℕ → Option ℕ → List ℕ → Asked → Result Outcome Failure → Type 0
 Settled k n span bytes task (Ok (Plain w)) = (k ≡ kind.Plain) × Attempted k number_tray 1 towers.held (towers.tower 2) towers.mirrored (λ s. s) gaps (in_tower number_tray n bytes) task (Ok w)
 Settled k n span bytes task (Ok (Sided w)) = (k ≡ kind.Sided) × Attempted k sided_tray 1 towers.held (towers.tower 1) towers.mirrored (λ s. s) breakpoints (in_tower sided_tray n bytes) task (Ok w)
-Settled k n span bytes task (Ok (Ring w)) = (k ≡ kind.Ring) × Attempted k number_tray 4 rings.held rings.ring rings.mirrored (λ s. s) half_gaps (in_ring n span bytes) task (Ok w)
+Settled k n span bytes task (Ok (Ring w)) = (k ≡ kind.Ring) × Attempted k number_tray 4 rings.held rings.ring rings.mirrored (λ s. s) half_gaps (in_ring n (unwrap_or span 0) bytes) task (Ok w)
 Settled k n span bytes task (Err (failure.Unexpected at expected)) = ⊥
 Settled k n span bytes task (Err (failure.Refused j fault)) = (j ≡ k) × RefusedAs k n span bytes fault
-Settled k n span bytes task (Err failure.NoMemory) = ⊤
+Settled k n span bytes task (Err failure.NoMemory) = CanBeSet k n span bytes × AsksMemory task
 
 -- The words make a request, and this is done for it.
 pub record Requested (ws : List Word) (o : Result Outcome Failure) : Type 0 where
@@ -58,15 +56,15 @@ pub record Requested (ws : List Word) (o : Result Outcome Failure) : Type 0 wher
   pub padded : Bytes trays bytes
   pub settled : Settled kind (tray_count trays count) span bytes task o
 
--- What comes of the words of a line.
+-- What comes of the words of a line. No memory is answered only where a tray or a turn was to be kept, or for the task of a machine that can be set.
 abbrev pub Replies : List Word → Result (Option Outcome) Failure → Type 0
 Replies ws (Ok None) = ws ≡ []
 Replies ws (Ok (Some o)) = Requested ws (Ok o)
 Replies ws (Err (failure.Unexpected at expected)) = (ws ≢ []) × Stuck ws at expected
 Replies ws (Err (failure.Refused k fault)) = Requested ws (Err (failure.Refused k fault))
-Replies ws (Err failure.NoMemory) = ⊤
+Replies ws (Err failure.NoMemory) = Unkept ws ⊎ Requested ws (Err failure.NoMemory)
 
--- What comes of a line. Nothing is said where memory is wanting.
+-- What comes of a line. Its words ask for memory too, so nothing is said where memory is wanting.
 abbrev pub Answers : List ℕ → Result (Option Outcome) Failure → Type 0
 Answers line (Err failure.NoMemory) = ⊤
 Answers line r = (ws : List Word) × Words line ws × Replies ws r

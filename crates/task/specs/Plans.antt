@@ -19,8 +19,9 @@ module _ {S M : Type 0} (m : Meaning S) (e : S → ℕ) (state : M → S) (limit
     pub followed : Follows m s turns (map state (vec_items trace.states)) trace.ending
     pub ends_home : trace.ending ≡ Home
 
-  abbrev pub Plans : Planned M → Type 0
-  Plans (Refused fault) = (fault ≡ Limit) × (64 < limit)
-  Plans (Found turns trace looks) = (limit ≤ 64) × FoundPlan (vec_items turns) trace looks
-  Plans (NoPlan looks) = (limit ≤ 64) × AllLonger m limit s × (looks ≡ (search m e limit s).looks)
-  Plans (Unfinished looks) = (limit ≤ 64) × (looks ≡ 2000000000) × (2000000000 < (search m e limit s).looks)
+  -- It is searched by at most so many looks, which are granted.
+  abbrev pub Plans : ℕ → Planned M → Type 0
+  Plans granted (Refused fault) = (fault ≡ Limit) × (64 < limit)
+  Plans granted (Found turns trace looks) = (limit ≤ 64) × (looks ≤ granted) × FoundPlan (vec_items turns) trace looks
+  Plans granted (NoPlan looks) = (limit ≤ 64) × (looks ≤ granted) × AllLonger m limit s × (looks ≡ (search m e limit s).looks)
+  Plans granted (Unfinished looks) = (limit ≤ 64) × (looks ≡ granted) × (granted < (search m e limit s).looks)

@@ -1,4 +1,4 @@
-use Rattle.std.specs.Prelude.{ℕ, List, [], ◌∷◌, ◌++◌, replicate, None, Option, Ok, Result}
+use Rattle.std.specs.Prelude.{ℕ, ◌/◌, ◌%◌, ◌==◌, if◌then◌else◌, List, [], ◌∷◌, ◌++◌, map, replicate, None, Option, Ok, Result}
 use Rattle.std.specs.List.{fold}
 use Rattle.std.specs.Result.{result_err}
 use Rattle.planner.specs.declared.answer.Answer.{Answer}
@@ -10,9 +10,17 @@ use Rattle.planner.specs.declared.played.Played.{Played}
 use Rattle.task.specs.declared.planning.Verdict.{Verdict}
 use Rattle.task.specs.declared.planning.Verdict.TheVariants.{Unfinished, Found, NoPlan}
 
--- The calls of a whole search: a load, as many grants of a million looks as a planner accepts for one load, and a fetch.
-unfoldable pub calls_within : {S : Type 0} → S → ℕ → List (Call S)
-calls_within s limit = Load s limit ∷ (replicate 2000 (Work 1000000) ++ Fetch ∷ [])
+-- One grant of so many looks, or none of 0.
+abbrev pub one_grant : ℕ → List ℕ
+one_grant looks = if looks == 0 then [] else looks ∷ []
+
+-- The grants that come to so many looks: as many of a million as fit, and one of what is left.
+abbrev pub grants : ℕ → List ℕ
+grants looks = replicate (looks / 1000000) 1000000 ++ one_grant (looks % 1000000)
+
+-- The calls of a search by at most so many looks: a load, the grants, and a fetch.
+unfoldable pub calls_within : {S : Type 0} → S → ℕ → ℕ → List (Call S)
+calls_within s limit looks = Load s limit ∷ (map Work (grants looks) ++ Fetch ∷ [])
 
 -- The verdict after one more reply: only an accepted grant changes it.
 abbrev pub heard : Verdict → Result Answer Fault → Verdict

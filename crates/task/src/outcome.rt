@@ -40,7 +40,7 @@ pub enum Planned<M> {
     Found(Vec<u8>, Trace<M>, u32),
     // there is no plan within the limit, which these looks showed
     NoPlan(u32),
-    // the search has not ended after these looks, which are all that a planner makes
+    // the search has not ended after these looks, which are all that it was granted
     Unfinished(u32),
 }
 

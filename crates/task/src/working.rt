@@ -1,7 +1,7 @@
-ghost use Rattle.std.specs.Prelude.{◌≡◌, IfOk};
+ghost use Rattle.std.specs.Prelude.{◌≡◌, IfErr, IfOk};
 ghost use Rattle.text.specs.Lines.{asked};
 ghost use Rattle.trays.specs.Setting.{holding_of};
-ghost use Rattle.task.specs.Work.{Attempted, Does};
+ghost use Rattle.task.specs.Work.{AsksMemory, Attempted, Does};
 
 use crate::estimating::estimates_of;
 use crate::failure::Failure;
@@ -39,6 +39,7 @@ pub fn work<M: Dual + Copy, E: SuccessorEstimate<M> + Copy>(
     task: Task,
 ) -> Result<Work<M>, AllocError>
     ensures start { IfOk result (λ w. w.start ≡ start) }
+    ensures no_memory { IfErr result (λ _. AsksMemory (asked task)) }
     ensures done { IfOk result (λ w. Does M.meaning M.mirror M.state (E.value estimate) start (asked task) w.done) }
 {
     match task {
@@ -57,10 +58,10 @@ pub fn work<M: Dual + Copy, E: SuccessorEstimate<M> + Copy>(
             start,
             done: Done::Estimated(estimates_of(&start, estimate)),
         }),
-        Task::Plan(limit) => {
+        Task::Plan { limit, looks } => {
             let look_ahead = LookAhead { below: estimate };
             let dual_lookup = DualLookup { below: look_ahead };
-            let planned = plan_within(heap, start, dual_lookup, limit)?;
+            let planned = plan_within(heap, start, dual_lookup, limit, looks)?;
             Ok(Work {
                 start,
                 done: Done::Planned(limit, planned),

@@ -132,3 +132,13 @@ fn turns_followed(rt: HostRuntime) -> Result<(), Fail> {
     assert_eq!(rt; refused.states.len(), 1);
     Ok(())
 }
+
+// However long the list is, all its turns are made.
+#[test]
+fn long_list_followed(rt: HostRuntime) -> Result<(), Fail> {
+    let t = tower::<u8>(2, &[2, 1])?;
+    let trace = follow(rt.alloc(), t, &[2; 1001])?;
+    assert_eq!(rt; trace.ending, Ending::Home);
+    assert_eq!(rt; trace.states.len(), 1001);
+    Ok(())
+}

@@ -1,9 +1,11 @@
-use crate::given::told;
-use machine::{Ending, Fault};
+use crate::given::{home, told};
+use gaps::Gaps;
+use machine::{Ending, Fault, Machine};
 use std::process::Abort;
 use std::test::*;
-use task::{Done, Estimates, Failure, Outcome, perform};
+use task::{Done, Estimates, Failure, Outcome, Planned, Work, perform, plan_within};
 use text::{Expected, Kind, Misread, Request, Task, Word, parse, read_words};
+use towers::PlainTower;
 use trays::Settable;
 
 fn request(rt: &impl AllocGlobal, line: &str) -> Result<Request, Misread> {
@@ -35,6 +37,7 @@ fn words(rt: HostRuntime) -> Result<(), Fail> {
     assert_eq!(rt; Word::from("turns"), Word::Turns);
     assert_eq!(rt; Word::from("dual"), Word::Dual);
     assert_eq!(rt; Word::from("estimate"), Word::Estimate);
+    assert_eq!(rt; Word::from("looks"), Word::Looks);
     assert_eq!(rt; Word::from("Plain"), Word::Other);
     Ok(())
 }
@@ -43,7 +46,9 @@ fn words(rt: HostRuntime) -> Result<(), Fail> {
 fn numbers(rt: HostRuntime) -> Result<(), Fail> {
     assert_eq!(rt; Word::from("255"), Word::Number(255));
     assert_eq!(rt; Word::from("+1"), Word::Number(1));
-    assert_eq!(rt; Word::from("256"), Word::Other);
+    assert_eq!(rt; Word::from("256"), Word::Large(256));
+    assert_eq!(rt; Word::from("+4294967295"), Word::Large(4_294_967_295));
+    assert_eq!(rt; Word::from("4294967296"), Word::Other);
     assert_eq!(rt; Word::from("-1"), Word::Away(1));
     assert_eq!(rt; Word::from("-0"), Word::Away(0));
     assert_eq!(rt; Word::from("-127"), Word::Away(127));
@@ -62,7 +67,7 @@ fn check_turns(rt: &impl Abort, q: &Request, turns: &[u8]) -> Result<(), Fail> {
         }
         Task::Dual => Err(Fail::new("the dual")),
         Task::Estimate => Err(Fail::new("an estimate")),
-        Task::Plan(_) => Err(Fail::new("a plan")),
+        Task::Plan { .. } => Err(Fail::new("a plan")),
     }
 }
 
@@ -114,6 +119,52 @@ fn estimate_requests(rt: HostRuntime) -> Result<(), Fail> {
     Ok(())
 }
 
+fn check_plan(
+    rt: &(impl Abort + AllocGlobal),
+    line: &str,
+    limit: u8,
+    looks: u32,
+) -> Result<(), Fail> {
+    let q = request(rt, line)?;
+    let Task::Plan {
+        limit: limit_read,
+        looks: looks_read,
+    } = q.task
+    else {
+        return Err(Fail::new("no plan"));
+    };
+    assert_eq!(rt; limit_read, limit);
+    assert_eq!(rt; looks_read, looks);
+    Ok(())
+}
+
+#[test]
+fn plan_requests(rt: HostRuntime) -> Result<(), Fail> {
+    check_plan(&rt, "plain 1 plan", 64, 2_000_000_000)?;
+    check_plan(&rt, "plain 1 plan limit 0", 0, 2_000_000_000)?;
+    check_plan(&rt, "plain 1 plan looks 1", 64, 1)?;
+    check_plan(&rt, "sided -1 plan limit 5 looks 255", 5, 255)?;
+    check_plan(&rt, "ring span 2 plan limit 255 looks 256", 255, 256)?;
+    check_plan(&rt, "plain 1 plan looks +2000000000", 64, 2_000_000_000)
+}
+
+#[test]
+fn misread_plans(rt: HostRuntime) -> Result<(), Fail> {
+    check_misread(&rt, "plain 1 plan 5", 3, Expected::LimitWord)?;
+    check_misread(&rt, "plain 1 plan limit 256", 4, Expected::LimitNumber)?;
+    check_misread(&rt, "plain 1 plan limit 5 5", 5, Expected::LooksWord)?;
+    check_misread(&rt, "plain 1 plan limit 5 limit 5", 5, Expected::LooksWord)?;
+    check_misread(&rt, "plain 1 plan looks 5 limit 5", 5, Expected::End)?;
+    check_misread(&rt, "plain 1 looks 5", 2, Expected::Tray)?;
+    check_misread(&rt, "plain 256 plan", 1, Expected::Tray)?;
+    check_misread(&rt, "plain 1 plan looks", 4, Expected::LooksNumber)?;
+    for number in ["0", "2000000001", "4294967296", "-1", "five"] {
+        let line = format!(in rt.alloc(); "plain 1 plan looks {number}")?;
+        check_misread(&rt, &line, 4, Expected::LooksNumber)?;
+    }
+    Ok(())
+}
+
 #[test]
 fn misreads(rt: HostRuntime) -> Result<(), Fail> {
     check_misread(&rt, "", 0, Expected::Kind)?;
@@ -162,6 +213,11 @@ fn what_is_expected(rt: HostRuntime) -> Result<(), Fail> {
         &rt,
         Expected::TaskWord,
         "`turns`, `dual`, `estimate` or `plan`",
+    )?;
+    check_told(
+        &rt,
+        Expected::LooksNumber,
+        "the number of looks, from 1 to 2000000000",
     )
 }
 
@@ -242,6 +298,79 @@ fn estimates_of_lines(rt: HostRuntime) -> Result<(), Fail> {
     check_estimates(&rt, "plain 1 3 2 estimate", told(2, 3, 3))?;
     check_estimates(&rt, "sided -2 3 1 estimate", told(3, 3, 4))?;
     check_estimates(&rt, "ring 2 3 4 1 span 2 estimate", told(0, 2, 2))
+}
+
+// What came of the search that the task asks for, on the plain tower 1 3 2.
+fn planned(rt: &impl AllocGlobal, task: &str) -> Result<Planned<PlainTower>, Fail> {
+    let line = format!(in rt.alloc(); "plain 1 3 2 {task}")?;
+    let Ok(Some(Outcome::Plain(work))) = perform(rt.alloc(), &line) else {
+        return Err(Fail::new("not done"));
+    };
+    match work.done {
+        Done::Planned(_, planned) => Ok(planned),
+        _ => Err(Fail::new("nothing planned")),
+    }
+}
+
+#[test]
+fn plans_of_lines(rt: HostRuntime) -> Result<(), Fail> {
+    let Planned::Found(turns, trace, looks) = planned(&rt, "plan looks 4")? else {
+        return Err(Fail::new("no plan"));
+    };
+    assert_eq!(rt; turns.as_slice(), [2, 3, 2].as_slice());
+    assert_eq!(rt; trace.ending, Ending::Home);
+    assert_eq!(rt; looks, 4);
+    assert!(rt; matches!(planned(&rt, "plan looks 3")?, Planned::Unfinished(3)));
+    let cut = planned(&rt, "plan limit 3 looks 1")?;
+    assert!(rt; matches!(cut, Planned::Unfinished(1)));
+    assert!(rt; matches!(planned(&rt, "plan limit 2 looks 1")?, Planned::NoPlan(1)));
+    assert!(rt; matches!(planned(&rt, "plan limit 65 looks 1")?, Planned::Refused(_)));
+    Ok(())
+}
+
+// Any number of looks may be granted.
+#[test]
+fn looks_beyond_a_line(rt: HostRuntime) -> Result<(), Fail> {
+    let none = plan_within(rt.alloc(), PlainTower::new(), Gaps, 64, 0)?;
+    assert!(rt; matches!(none, Planned::Unfinished(0)));
+    let most = plan_within(rt.alloc(), PlainTower::new(), Gaps, 64, u32::MAX)?;
+    assert!(rt; matches!(most, Planned::Found(_, _, 1)));
+    Ok(())
+}
+
+// A line may have any number of turns.
+#[test]
+fn long_line(rt: HostRuntime) -> Result<(), Fail> {
+    let mut line = String::new(rt.alloc());
+    line.push_str("plain 2 1 turns")?;
+    for _ in 0..301 {
+        line.push_str(" 2")?;
+    }
+    let Ok(Some(Outcome::Plain(work))) = perform(rt.alloc(), line.as_str()) else {
+        return Err(Fail::new("no tower"));
+    };
+    let Done::Followed(turns, trace) = work.done else {
+        return Err(Fail::new("no turns"));
+    };
+    assert_eq!(rt; turns.len(), 301);
+    assert_eq!(rt; trace.ending, Ending::Home);
+    Ok(())
+}
+
+// Towers of every number of trays, one turn from home.
+#[test]
+fn plans_of_each_size(rt: HostRuntime) -> Result<(), Fail> {
+    for n in 2..=32 {
+        let mut tower: PlainTower = home(n, ())?;
+        assert_eq!(rt; tower.turn(n), Ok(()));
+        let planned = plan_within(rt.alloc(), tower, Gaps, 64, u32::MAX)?;
+        let Planned::Found(turns, trace, _) = planned else {
+            return Err(Fail::new("no plan"));
+        };
+        assert_eq!(rt; turns.as_slice(), [n].as_slice());
+        assert_eq!(rt; trace.ending, Ending::Home);
+    }
+    Ok(())
 }
 
 // No machine is set, whatever is asked of it.

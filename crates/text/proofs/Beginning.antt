@@ -1,10 +1,11 @@
-use Rattle.std.proofs.Common.{◌≡◌, ℕ, ◌⊎◌, List, [], ◌∷◌, ◌++◌, None, Option, IsTrue, sym, refl, ap, ◌∙◌, subst, inl, inr, arith, append-nil}
+use Rattle.std.proofs.Common.{◌≡◌, ℕ, ◌<◌, ◌⊎◌, List, [], ◌∷◌, ◌++◌, Some, None, Option, IsTrue, map, sym, refl, ap, ◌∙◌, subst, inl, inr, arith, append_assoc, append-nil}
+use Rattle.std.specs.Option.{unwrap_or}
 use Rattle.text.specs.declared.word.Kind.{Kind}
 use Rattle.text.specs.declared.word.Word.{Word}
-use Rattle.text.specs.declared.word.Word.TheVariants.{Away}
+use Rattle.text.specs.declared.word.Word.TheVariants.{Turns, Dual, Estimate, Plan, Looks, Number, Away}
 use Rattle.text.specs.declared.request.Expected.{Expected}
 use Rattle.text.specs.declared.request.Expected.TheVariants as place
-use Rattle.text.specs.Lines.{Asked, TrayWord, TrayWords, Line, Begun, may_stand}
+use Rattle.text.specs.Lines.{Asked, turns, dual, estimate, plan, TrayWord, TrayWords, Line, Begun, Written, TaskWords, LastWords, HasSpan, limit_words, may_end, may_stand}
 
 -- One word more of a line that has begun.
 
@@ -22,8 +23,72 @@ tray_more place.Tray kind trays count span task ws longer w tray at is more h = 
 tray_more place.RingTray kind trays count span task ws longer w tray at is more h = (h.0, h.1, h.2, h.3, line_tray ws kind trays longer w tray is more h.4)
 tray_more e kind trays count span task ws longer w tray at is more h = absurd (grind arith)
 
+-- a number after a minus sign is below 128 wherever it may stand
+pub away_below : (e : Expected) (n : ℕ) → IsTrue (may_stand e (Away n)) → n < 128
+away_below place.Tray n t = grind arith
+away_below place.RingTray n t = grind arith
+away_below e n t = absurd (grind arith)
+
 -- where a number after a minus sign may stand
 pub away_place : (e : Expected) (n : ℕ) → IsTrue (may_stand e (Away n)) → (e ≡ place.Tray) ⊎ (e ≡ place.RingTray)
 away_place place.Tray n t = inl refl
 away_place place.RingTray n t = inr refl
 away_place e n t = absurd (grind arith)
+
+-- One word more of the task.
+line_more : (ws rest : List Word) (kind : Kind) (trays : List ℕ) (count span : Option ℕ) (w : Word) → Line ws kind trays count span rest → Line (ws ++ w ∷ []) kind trays count span (rest ++ w ∷ [])
+line_more ws rest kind trays count span w h =
+    (h.0, h.1, ap (λ (l : List Word). l ++ w ∷ []) h.2 ∙ simp append_assoc)
+
+-- where the word of a task may stand
+dual_place : (e : Expected) → IsTrue (may_stand e Dual) → (e ≡ place.Tray) ⊎ (e ≡ place.TaskWord)
+dual_place place.Tray t = inl refl
+dual_place place.TaskWord t = inr refl
+dual_place e t = absurd (grind arith)
+
+estimate_place : (e : Expected) → IsTrue (may_stand e Estimate) → (e ≡ place.Tray) ⊎ (e ≡ place.TaskWord)
+estimate_place place.Tray t = inl refl
+estimate_place place.TaskWord t = inr refl
+estimate_place e t = absurd (grind arith)
+
+before_task : (e : Expected) (kind : Kind) (trays : List ℕ) (count span : Option ℕ) (task : Asked) (ws : List Word) → (e ≡ place.Tray) ⊎ (e ≡ place.TaskWord) → Begun e kind trays count span task ws → HasSpan kind span × Line ws kind trays count span []
+before_task place.Tray kind trays count span task ws at h = grind arith
+before_task place.TaskWord kind trays count span task ws at h = (h.0, h.3)
+before_task e kind trays count span task ws at h = absurd (grind arith)
+
+-- a task of one word, after which the line ends
+pub dual_more : (e : Expected) (kind : Kind) (trays : List ℕ) (count span : Option ℕ) (task : Asked) (ws : List Word) → IsTrue (may_stand e Dual) → Begun e kind trays count span task ws → Begun place.End kind trays count span dual (ws ++ Dual ∷ [])
+dual_more e kind trays count span task ws at h =
+    let b = before_task e kind trays count span task ws (dual_place e at) h in
+    (b.0, (Dual ∷ [], refl, line_more ws [] kind trays count span Dual b.1))
+
+pub estimate_more : (e : Expected) (kind : Kind) (trays : List ℕ) (count span : Option ℕ) (task : Asked) (ws : List Word) → IsTrue (may_stand e Estimate) → Begun e kind trays count span task ws → Begun place.End kind trays count span estimate (ws ++ Estimate ∷ [])
+estimate_more e kind trays count span task ws at h =
+    let b = before_task e kind trays count span task ws (estimate_place e at) h in
+    (b.0, (Estimate ∷ [], refl, line_more ws [] kind trays count span Estimate b.1))
+
+-- `looks`, after a plan with a limit or with none
+pub looks_more : (e : Expected) (kind : Kind) (trays : List ℕ) (count span : Option ℕ) (task : Asked) (ws : List Word) → IsTrue (may_stand e Looks) → Begun e kind trays count span task ws → Begun place.LooksNumber kind trays count span task (ws ++ Looks ∷ [])
+looks_more place.LimitWord kind trays count span task ws at h = (h.0, (None, h.1, line_more ws (Plan ∷ []) kind trays count span Looks h.2))
+looks_more place.LooksWord kind trays count span task ws at h =
+    (h.0, (Some h.1.0, h.1.1, line_more ws (Plan ∷ limit_words (Some h.1.0)) kind trays count span Looks h.1.2))
+looks_more e kind trays count span task ws at h = absurd (grind arith)
+
+-- A line that may end is one that asks this.
+last_task : (task : Asked) (rest : List Word) → LastWords task rest → TaskWords task rest
+last_task (turns ks) rest h = absurd h
+last_task dual rest h = h
+last_task estimate rest h = h
+last_task (plan limit looks) rest h = (h.0, Some looks, h.1)
+
+plan_task : (l : Option ℕ) (task : Asked) → task ≡ plan (unwrap_or l 64) 2000000000 → TaskWords task (Plan ∷ (limit_words l ++ []))
+plan_task l task is = subst (λ (t : Asked). TaskWords t (Plan ∷ (limit_words l ++ []))) (sym is) (l, None, (refl, refl, refl, omega arith, omega arith))
+
+pub written : (e : Expected) (kind : Kind) (trays : List ℕ) (count span : Option ℕ) (task : Asked) (ws : List Word) → IsTrue (may_end e) → Begun e kind trays count span task ws → Written ws kind trays count span task
+written place.Turn kind trays count span task ws end h =
+    (h.0, (Turns ∷ map Number h.1.0, subst (λ (t : Asked). TaskWords t (Turns ∷ map Number h.1.0)) (sym h.1.1) refl, h.1.2))
+written place.LimitWord kind trays count span task ws end h = (h.0, (Plan ∷ [], plan_task None task h.1, h.2))
+written place.LooksWord kind trays count span task ws end h =
+    (h.0, (Plan ∷ limit_words (Some h.1.0), plan_task (Some h.1.0) task h.1.1, h.1.2))
+written place.End kind trays count span task ws end h = (h.0, (h.1.0, last_task task h.1.0 h.1.1, h.1.2))
+written e kind trays count span task ws end h = absurd (grind arith)

@@ -1,3 +1,5 @@
 pub mod Beginning
+pub mod Unique
 pub mod Steps
+pub mod Walks
 pub mod Wording

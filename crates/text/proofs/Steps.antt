@@ -8,11 +8,13 @@ use Rattle.text.specs.Readers.{Begins}
 -- the line ends too early
 pub stuck_end : (r : Reader) (words : List Word) (at : ℕ) → length words ≤ at → Begins r (take at words) → may_end r.expected ≡ false → Stuck words (length words) r.expected
 stuck_end r words at end h not' = record {
-  kind = r.kind;
-  trays = vec_items r.trays;
-  count = r.count;
-  span = r.span;
-  task = asked r.task;
-  begun = rw (take_all (length words) words (omega arith)) (rw (take_all at words end) at h);
+  reached = record {
+    kind = r.kind;
+    trays = vec_items r.trays;
+    count = r.count;
+    span = r.span;
+    task = asked r.task;
+    begun = rw (take_all (length words) words (omega arith)) (rw (take_all at words end) at h);
+  };
   wrong = inr (refl, not');
 }

@@ -1,5 +1,5 @@
 pub mod Words
 pub mod Lines
 pub mod Readers
-pub mod Stacks
+pub mod TrayCounts
 pub mod Texts

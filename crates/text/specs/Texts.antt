@@ -1,6 +1,6 @@
 use Rattle.std.specs.Prelude.{ℕ, List, codes}
 use Rattle.text.specs.declared.request.Expected.{Expected}
-use Rattle.text.specs.declared.request.Expected.TheVariants.{Kind, Tray, RingTray, CountNumber, SpanWord, SpanNumber, TaskWord, Turn, LimitWord, LimitNumber, End}
+use Rattle.text.specs.declared.request.Expected.TheVariants.{Kind, Tray, RingTray, CountNumber, SpanWord, SpanNumber, TaskWord, Turn, LimitWord, LimitNumber, LooksWord, LooksNumber, End}
 
 -- How what is expected is told.
 abbrev pub expected_text : Expected → List ℕ
@@ -12,6 +12,8 @@ expected_text SpanWord = codes "`span`"
 expected_text SpanNumber = codes "the span, from 0 to 255"
 expected_text TaskWord = codes "`turns`, `dual`, `estimate` or `plan`"
 expected_text Turn = codes "a turn number from 0 to 255"
-expected_text LimitWord = codes "`limit` or the end of the line"
+expected_text LimitWord = codes "`limit`, `looks` or the end of the line"
 expected_text LimitNumber = codes "the limit, from 0 to 255"
+expected_text LooksWord = codes "`looks` or the end of the line"
+expected_text LooksNumber = codes "the number of looks, from 1 to 2000000000"
 expected_text End = codes "the end of the line"

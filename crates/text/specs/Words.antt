@@ -1,15 +1,15 @@
-use Rattle.std.specs.Prelude.{◌≡◌, ℕ, ◌<◌, List, [], ◌∷◌, ◌++◌, length, codes, ◌≢◌}
+use Rattle.std.specs.Prelude.{◌≡◌, ℕ, ◌<◌, ◌≤◌, List, [], ◌∷◌, ◌++◌, length, codes, ◌≢◌}
 use Rattle.std.specs.Str.Parse.{IsNumeral, without_leading_plus, digits_value}
 use Rattle.std.specs.Char.{is_whitespace, is_not_whitespace}
 use Rattle.std.specs.Str.{NoCharPasses, EmptyOrStartsWithPassing}
 use Rattle.text.specs.declared.word.Kind.{Kind}
 use Rattle.text.specs.declared.word.Kind.TheVariants.{Plain, Sided, Ring}
 use Rattle.text.specs.declared.word.Word.{Word}
-use Rattle.text.specs.declared.word.Word.TheVariants.{Kind as Machine, Count, Span, Turns, Dual, Estimate, Plan, Limit, Number, Away, Other}
+use Rattle.text.specs.declared.word.Word.TheVariants.{Kind as Machine, Count, Span, Turns, Dual, Estimate, Plan, Limit, Looks, Number, Large, Away, Other}
 
--- decimal digits, after a plus sign or none, that write n, a number from 0 to 255
-abbrev pub IsNumber : List ℕ → ℕ → Type 0
-IsNumber bs n = IsNumeral 10 (without_leading_plus bs) × (digits_value 10 (without_leading_plus bs) ≡ n) × (n < 256)
+-- decimal digits, after a plus sign or none, that write n, a number below this bound
+abbrev pub IsNumber : ℕ → List ℕ → ℕ → Type 0
+IsNumber bound bs n = IsNumeral 10 (without_leading_plus bs) × (digits_value 10 (without_leading_plus bs) ≡ n) × (n < bound)
 
 -- decimal digits, with no sign before them, that write n
 abbrev pub IsUnsigned : List ℕ → ℕ → Type 0
@@ -35,7 +35,9 @@ Spells bs Dual = bs ≡ codes "dual"
 Spells bs Estimate = bs ≡ codes "estimate"
 Spells bs Plan = bs ≡ codes "plan"
 Spells bs Limit = bs ≡ codes "limit"
-Spells bs (Number n) = IsNumber bs n
+Spells bs Looks = bs ≡ codes "looks"
+Spells bs (Number n) = IsNumber 256 bs n
+Spells bs (Large n) = IsNumber 4294967296 bs n × (256 ≤ n)
 Spells bs (Away n) = IsAway bs n
 Spells bs Other =
     (bs ≢ kind_name Plain)
@@ -48,7 +50,8 @@ Spells bs Other =
     × (bs ≢ codes "estimate")
     × (bs ≢ codes "plan")
     × (bs ≢ codes "limit")
-    × ((n : ℕ) → ¬ IsNumber bs n)
+    × (bs ≢ codes "looks")
+    × ((n : ℕ) → ¬ IsNumber 4294967296 bs n)
     × ((n : ℕ) → ¬ IsAway bs n)
 
 -- bs is white space, then the piece, then `rest`, which is empty or begins with white space

@@ -1,5 +1,5 @@
 ghost use Rattle.std.specs.Prelude.{MatchResult};
-ghost use Rattle.text.specs.Lines.{Misreads, Written, asked};
+ghost use Rattle.text.specs.Lines.{Misreads, OneFault, OneReading, OneRequest, Written, asked};
 
 use crate::reader::Reader;
 use crate::request::{Misread, Request};
@@ -8,9 +8,12 @@ use std::alloc::Global;
 
 // The request that the words of a line make.
 pub fn parse(heap: Global, words: &[Word]) -> Result<Request, Misread>
-    ensures { MatchResult result
+    ensures read { MatchResult result
         (λ q. Written words.now q.kind q.trays.items q.count q.span (asked q.task))
         (λ m. Misreads words.now m) }
+    ensures once { OneReading }
+    ensures request { OneRequest }
+    ensures fault { OneFault }
 {
     let mut reader = Reader::new(heap);
     reader.read(words)?;

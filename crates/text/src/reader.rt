@@ -1,10 +1,10 @@
-ghost use Rattle.std.specs.Prelude.{◌≡◌, List, [], IfErr, IsTrue, OnOk};
-ghost use Rattle.text.specs.declared.request.Expected.TheVariants.{End, Turn};
+ghost use Rattle.std.specs.Prelude.{◌≡◌, ◌≤◌, List, [], IfErr, IsTrue, OnOk};
+ghost use Rattle.text.specs.declared.request.Expected.TheVariants.{End, LimitNumber, LooksNumber, Turn};
 ghost use Rattle.text.specs.declared.word.Word.TheVariants.{Away, Number};
-ghost use Rattle.text.specs.Lines.{Misreads, may_end, may_stand};
+ghost use Rattle.text.specs.Lines.{Misreads, is_listed, may_end, may_stand, number_word};
 ghost use Rattle.text.specs.Readers.{Asks, Begins, IsRead, Refuses, Stepped, after_count, after_kind};
 
-use crate::request::{Expected, Misread, Request, Task, UNWRITTEN_LIMIT};
+use crate::request::{DEFAULT_LIMIT, Expected, MOST_LOOKS, Misread, Request, Task};
 use crate::word::{Kind, Word};
 use std::alloc::{AllocError, Global};
 
@@ -67,11 +67,16 @@ impl Reader {
             Word::Dual => self.end_with(Task::Dual),
             Word::Estimate => self.end_with(Task::Estimate),
             Word::Plan => {
-                self.task = Task::Plan(UNWRITTEN_LIMIT);
+                self.task = Task::Plan {
+                    limit: DEFAULT_LIMIT,
+                    looks: MOST_LOOKS,
+                };
                 self.expected = Expected::LimitWord;
             }
             Word::Limit => self.expected = Expected::LimitNumber,
+            Word::Looks => self.expected = Expected::LooksNumber,
             Word::Number(n) => self.take(n)?,
+            Word::Large(n) => self.take_looks(n),
             Word::Away(n) => self.take_away(n)?,
             Word::Other => unreachable!(),
         }
@@ -89,7 +94,8 @@ impl Reader {
     // Takes a number as what is expected here.
     fn take(&mut self, n: u8) -> Result<(), AllocError>
         requires { IsTrue (may_stand self.old.expected (Number n)) }
-        ensures { OnOk result (Stepped self.old (Number n) self.new) }
+        ensures ok { OnOk result (Stepped self.old (Number n) self.new) }
+        ensures err { IfErr result (λ _. IsTrue (is_listed self.old.expected (Number n))) }
     {
         match self.expected {
             Expected::Tray | Expected::RingTray => self.trays.push(n)?,
@@ -102,10 +108,33 @@ impl Reader {
                 self.expected = Expected::TaskWord;
             }
             Expected::Turn => self.take_turn(n)?,
-            Expected::LimitNumber => self.end_with(Task::Plan(n)),
+            Expected::LimitNumber => self.take_limit(n),
+            Expected::LooksNumber => self.take_looks(u32::from(n)),
             _ => unreachable!(),
         }
         Ok(())
+    }
+
+    // Takes the limit of a plan.
+    fn take_limit(&mut self, limit: u8)
+        requires { self.old.expected ≡ LimitNumber }
+        ensures { Stepped self.old (Number limit) self.new }
+    {
+        let looks = MOST_LOOKS;
+        self.task = Task::Plan { limit, looks };
+        self.expected = Expected::LooksWord;
+    }
+
+    // Takes the looks of a plan. They are expected only where the task is a plan.
+    fn take_looks(&mut self, looks: u32)
+        requires expected { self.old.expected ≡ LooksNumber }
+        requires least { 1 ≤ looks }
+        requires most { looks ≤ 2000000000 }
+        ensures { Stepped self.old (number_word looks) self.new }
+    {
+        if let Task::Plan { limit, .. } = self.task {
+            self.end_with(Task::Plan { limit, looks });
+        }
     }
 
     // Takes the next turn. One is expected only where the task is to make turns.
@@ -165,15 +194,20 @@ impl Expected {
                 Expected::Tray | Expected::TaskWord
             ),
             Word::Limit => matches!(self, Expected::LimitWord),
-            Word::Number(_) => matches!(
-                self,
+            Word::Looks => matches!(self, Expected::LimitWord | Expected::LooksWord),
+            Word::Number(n) => match self {
                 Expected::Tray
-                    | Expected::RingTray
-                    | Expected::CountNumber
-                    | Expected::SpanNumber
-                    | Expected::Turn
-                    | Expected::LimitNumber
-            ),
+                | Expected::RingTray
+                | Expected::CountNumber
+                | Expected::SpanNumber
+                | Expected::Turn
+                | Expected::LimitNumber => true,
+                Expected::LooksNumber => n >= 1,
+                _ => false,
+            },
+            Word::Large(n) => {
+                (256..=MOST_LOOKS).contains(&n) && matches!(self, Expected::LooksNumber)
+            }
             Word::Away(n) => n < 128 && matches!(self, Expected::Tray | Expected::RingTray),
             Word::Other => false,
         }
@@ -183,7 +217,10 @@ impl Expected {
     fn may_end(self) -> bool
         ensures { result ≡ may_end self }
     {
-        matches!(self, Expected::Turn | Expected::LimitWord | Expected::End)
+        matches!(
+            self,
+            Expected::Turn | Expected::LimitWord | Expected::LooksWord | Expected::End
+        )
     }
 
     // What is expected after the kind.

@@ -1,6 +1,6 @@
 ghost use Rattle.std.specs.Prelude.{◌≡◌, ℕ, ◌<◌, Some, slice_index};
 ghost use Rattle.text.specs.declared.request.Misread.TheVariants.{NoMemory};
-ghost use Rattle.text.specs.Stacks.{tray_count};
+ghost use Rattle.text.specs.TrayCounts.{tray_count};
 ghost use Rattle.text.specs.Texts.{expected_text};
 
 use crate::word::Kind;
@@ -47,12 +47,15 @@ pub enum Task {
     Dual,
     // estimate the turns that it still needs
     Estimate,
-    // find the fewest turns that bring it home, if no more than this limit do
-    Plan(u8),
+    // find the fewest turns that bring it home, if no more than this limit do, by at most so many looks
+    Plan { limit: u8, looks: u32 },
 }
 
 // The limit of a plan where a line gives none.
-pub(crate) const UNWRITTEN_LIMIT: u8 = 64;
+pub(crate) const DEFAULT_LIMIT: u8 = 64;
+
+// The most looks that a line may give, and those of a plan where it gives none.
+pub(crate) const MOST_LOOKS: u32 = 2_000_000_000;
 
 // What may stand at a place of a line.
 #[derive(Clone, Copy, PartialEq, Eq, Debug)]
@@ -73,10 +76,14 @@ pub enum Expected {
     TaskWord,
     // a turn, or the end of the line
     Turn,
-    // `limit`, or the end of the line
+    // `limit`, `looks`, or the end of the line
     LimitWord,
     // the number after `limit`
     LimitNumber,
+    // `looks`, or the end of the line, after a limit
+    LooksWord,
+    // the number after `looks`
+    LooksNumber,
     // the end of the line
     End,
 }
@@ -95,8 +102,10 @@ impl fmt::Display for Expected {
             Expected::SpanNumber => "the span, from 0 to 255",
             Expected::TaskWord => "`turns`, `dual`, `estimate` or `plan`",
             Expected::Turn => "a turn number from 0 to 255",
-            Expected::LimitWord => "`limit` or the end of the line",
+            Expected::LimitWord => "`limit`, `looks` or the end of the line",
             Expected::LimitNumber => "the limit, from 0 to 255",
+            Expected::LooksWord => "`looks` or the end of the line",
+            Expected::LooksNumber => "the number of looks, from 1 to 2000000000",
             Expected::End => "the end of the line",
         })
     }

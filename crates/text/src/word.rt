@@ -34,8 +34,11 @@ pub enum Word {
     Estimate,
     Plan,
     Limit,
+    Looks,
     // a decimal number from 0 to 255
     Number(u8),
+    // a decimal number from 256 to 4,294,967,295
+    Large(u32),
     // a minus sign and a decimal number from 0 to 127
     Away(u8),
     Other,
@@ -58,9 +61,11 @@ impl From<&str> for Word {
             "estimate" => Word::Estimate,
             "plan" => Word::Plan,
             "limit" => Word::Limit,
-            _ => match text.parse() {
-                Ok(n) => Word::Number(n),
-                Err(_) => away(text).map_or(Word::Other, Word::Away),
+            "looks" => Word::Looks,
+            _ => match (text.parse(), text.parse()) {
+                (Ok(n), _) => Word::Number(n),
+                (_, Ok(n)) => Word::Large(n),
+                _ => away(text).map_or(Word::Other, Word::Away),
             },
         }
     }

@@ -1,29 +1,67 @@
 #![tactic(auto)]
 
 mod answer;
+mod drawing;
+mod help;
+mod line;
 mod shown;
+mod work;
 
 use answer::answer;
-use std::io;
+use help::show_help;
+use line::Line;
 use std::io::{BufRead, BufReader};
+use std::{env, io};
 
-// Answers each line of standard input.
+// Answers the arguments as one line, or else each line of standard input.
 fn run(rt: &HostRuntime) -> anyhow::Result<()> {
-    for line in BufReader::new(rt.alloc(), rt.stdin())?.lines(rt.alloc()) {
-        match line {
-            Ok(text) => answer(rt, text.as_str())?,
-            Err(e) => not_text(rt, e)?,
-        }
+    let arguments = arguments(rt)?;
+    let line = Line {
+        number: None,
+        text: arguments.as_str(),
+    };
+    if !answer(rt, line)? && !answer_lines(rt)? {
+        show_help(rt)?;
     }
     Ok(())
 }
 
-// A line that is no text is passed over; any other error ends the program.
-fn not_text(rt: &HostRuntime, e: io::Error) -> io::Result<()> {
+// The arguments, with a space before each.
+fn arguments(rt: &HostRuntime) -> anyhow::Result<String> {
+    let mut line = String::new(rt.alloc());
+    for argument in env::args(rt)?.skip(1) {
+        line.push(' ')?;
+        line.push_str(argument.as_str())?;
+    }
+    Ok(line)
+}
+
+// Answers each line of standard input, and tells whether any asked for something.
+fn answer_lines(rt: &HostRuntime) -> anyhow::Result<bool> {
+    let mut asked = false;
+    let lines = BufReader::new(rt.alloc(), rt.stdin())?.lines(rt.alloc());
+    for (i, line) in lines.enumerate() {
+        let number = Some(i.saturating_add(1));
+        match line {
+            Ok(text) => {
+                let text = text.as_str();
+                asked |= answer(rt, Line { number, text })?;
+            }
+            Err(e) => {
+                not_text(rt, Line { number, text: "" }, e)?;
+                asked = true;
+            }
+        }
+    }
+    Ok(asked)
+}
+
+// Tells of a line that is not text; any other error ends the program.
+fn not_text(rt: &HostRuntime, line: Line<'_>, e: io::Error) -> io::Result<()> {
     if e.kind() != io::ErrorKind::InvalidData {
         return Err(e);
     }
-    println!(rt; "not understood: the line is not UTF-8 text")
+    println!(rt; "{line}not understood: it is not UTF-8 text")
 }
 
 fn main(rt: HostRuntime) -> anyhow::Result<()> {

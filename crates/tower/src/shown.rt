@@ -36,38 +36,24 @@ pub(crate) fn count_name(kind: Kind) -> &'static str {
     }
 }
 
-// Why a machine of this kind refused to be set, or to make this turn.
+// Why a machine of this kind refused to be set, or to make a turn, and what it accepts.
 #[derive(Clone, Copy)]
-pub(crate) struct Refusal {
+pub(crate) struct Reason {
     pub(crate) kind: Kind,
     pub(crate) fault: Fault,
-    pub(crate) turn: Option<u8>,
 }
 
-impl Refusal {
-    fn reason(&self) -> &'static str {
-        match (self.fault, self.kind) {
-            (Fault::TrayCount, Kind::Ring) => "the number of trays is below 4 or above 32",
-            (Fault::TrayCount, _) => "the number of trays is below 1 or above 32",
-            (Fault::Span, _) => "the span is below 2 or above the number of trays",
-            (Fault::TrayNumber(_), _) => "the tray number is 0 or above the number of trays",
-            (Fault::TrayRepeated(_), _) => "the tray number stands at an earlier place too",
-            (Fault::TrayBeyond(_), _) => "the byte stands after the last tray and is not 0",
+impl fmt::Display for Reason {
+    fn fmt<W: fmt::Write>(&self, f: &mut fmt::Formatter<W>) -> fmt::Result {
+        f.write_str(match (self.fault, self.kind) {
+            (Fault::TrayCount, Kind::Ring) => "the number of trays must be from 4 to 32",
+            (Fault::TrayCount, _) => "the number of trays must be from 1 to 32",
+            (Fault::Span, _) => "the span must be from 2 to the number of trays",
+            (Fault::TrayNumber(_), _) => "it must be from 1 to the number of trays",
+            (Fault::TrayRepeated(_), _) => "it stands at an earlier place too, and may stand once",
+            (Fault::TrayBeyond(_), _) => "it stands after the last tray, where only 0 may stand",
             (Fault::NoSuchTurn, Kind::Ring) => "the ring does not have this turn",
             (Fault::NoSuchTurn, _) => "the tower does not have this turn",
-        }
-    }
-}
-
-// The number of the refusal, the tray byte or the turn at fault, and what is wrong.
-impl fmt::Display for Refusal {
-    fn fmt<W: fmt::Write>(&self, f: &mut fmt::Formatter<W>) -> fmt::Result {
-        let number = self.fault.number();
-        let reason = self.reason();
-        match (self.fault.index(), self.turn) {
-            (Some(i), _) => write!(f, "refused {number} at byte {i}: {reason}"),
-            (None, Some(k)) => write!(f, "refused {number} at turn {k}: {reason}"),
-            (None, None) => write!(f, "refused {number}: {reason}"),
-        }
+        })
     }
 }

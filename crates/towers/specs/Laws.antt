@@ -1,12 +1,12 @@
 use Rattle.std.specs.Prelude.{◌≡◌, ℕ, ◌≤◌, refl}
-use Rattle.std.proofs.Common.{arith}
+use Rattle.std.proofs.Common.{ap, arith}
 use Rattle.trays.specs.Arranged.{same_arrangement}
 use Rattle.trays.specs.declared.tray.Tray.{Ghosts}
 use Rattle.trays.proofs.Kind.{Kind}
 use Rattle.trays.proofs.Permuting.{first_in_order}
 use Rattle.trays.proofs.Turning.{block_move, block_exchange}
 use Rattle.towers.specs.declared.tower.Tower.{Tower}
-use Rattle.towers.specs.Towers.{mirrored, permuted, refitted, tower, turn_moves}
+use Rattle.towers.specs.Towers.{held, mirrored, permuted, refitted, tower, turn_moves}
 
 module _ {A : Type 0} {b : Ghosts A} where
   -- how many trays, which no turn changes
@@ -16,6 +16,10 @@ module _ {A : Type 0} {b : Ghosts A} where
   -- towers with the same trays are the same
   pub same_tower : (s t : Tower A b) → count s ≡ count t → s.arrangement.trays ≡ t.arrangement.trays → s ≡ t
   same_tower s t p q = λ i. record { arrangement = same_arrangement s.arrangement t.arrangement p q i }
+
+  -- a tower is fixed by what it holds
+  pub held_fixed : (s t : Tower A b) → held s ≡ held t → s ≡ t
+  held_fixed s t e = same_tower s t (ap (λ h. h.count) e) (ap (λ h. h.trays) e)
 
   unfoldable pub tower_kind : (low : ℕ) → 1 ≤ low → Kind b.form b.regular (tower {b = b} low) mirrored count
   tower_kind low from = record {

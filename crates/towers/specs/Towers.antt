@@ -13,6 +13,7 @@ use Rattle.trays.proofs.Turning.{block_move, block_exchange, block_moved}
 use Rattle.towers.specs.declared.tower.Tower.{Tower}
 
 module _ {A : Type 0} {b : Ghosts A} where
+  -- The trays of a tower are the numbers 1 to n, each once.
   pub permuted : (s : Tower A b) → Permutation b.form s.arrangement.n s.arrangement.trays
   permuted s = from_test b.form b.regular s.arrangement.n s.arrangement.trays s.arrangement.each_once
 
@@ -31,6 +32,7 @@ module _ {A : Type 0} {b : Ghosts A} where
   abbrev pub flipped_over : Tower A b → ℕ → List A
   flipped_over s k = turned_over b.form (block s k) (flipped (block s k) s.arrangement.trays)
 
+  -- Turn k moves the trays as `block_move` says.
   pub turn_moves : (s : Tower A b) (k : ℕ) → Moved b.form (block_move s.arrangement.n k) s.arrangement.trays (flipped_over s k)
   turn_moves s k =
       let m = s.arrangement.most in

@@ -1,8 +1,5 @@
-ghost use Rattle.std.specs.Prelude.{◌≡◌, ℕ, true, ◌≤◌, List, refl};
-ghost use Rattle.reversal.specs.Reversed.{flipped};
-ghost use Rattle.trays.specs.Sides.{turned_over};
-ghost use Rattle.towers.specs.Kinds.{only_turned_round, some_turn};
-ghost use Rattle.towers.specs.Tray.{sided_tray};
+ghost use Rattle.std.specs.Prelude.{◌≡◌, ℕ, true, ◌≤◌};
+ghost use Rattle.towers.specs.Kinds.{suc_from_one};
 
 use crate::tray::SidedTray;
 use trays::Tray;
@@ -18,17 +15,11 @@ pub trait TowerTray: Tray {
 
     ghost LOWEST: { ℕ };
 
-    // the trays after turn k
-    ghost turned: { ℕ → List Self → List Self };
-
     // The tray on its other side, where it has sides.
     fn turned_over(self) -> Self
         ensures { result ≡ Self.form.sided true self };
 
     ghost from_one: { 1 ≤ LOWEST };
-
-    // Turned round, and over where they have sides.
-    ghost turns: { (k : ℕ) (xs : List Self) → turned_over Self.form k (flipped k xs) ≡ turned k xs };
 }
 
 // The trays of a plain tower. A turn of one tray would change nothing.
@@ -41,11 +32,7 @@ impl TowerTray for u8 {
 
     ghost LOWEST = { 2 };
 
-    ghost turned = { flipped };
-
-    ghost from_one = { some_turn 1 };
-
-    ghost turns = { only_turned_round };
+    ghost from_one = { suc_from_one 1 };
 
     fn turned_over(self) -> u8 {
         self
@@ -62,11 +49,7 @@ impl TowerTray for SidedTray {
 
     ghost LOWEST = { 1 };
 
-    ghost turned = { λ k xs. turned_over sided_tray k (flipped k xs) };
-
-    ghost from_one = { some_turn 0 };
-
-    ghost turns = { λ k xs. refl };
+    ghost from_one = { suc_from_one 0 };
 
     fn turned_over(self) -> SidedTray {
         SidedTray {

@@ -1,4 +1,5 @@
 ghost use Rattle.std.specs.Prelude.{None};
+ghost use Rattle.towers.specs.Laws.{held_fixed};
 ghost use Rattle.towers.specs.Towers.{held};
 
 use crate::kinds::TowerTray;
@@ -16,6 +17,8 @@ impl<T: TowerTray> Settable for Tower<T> {
     ghost spanning = { λ _. None };
 
     ghost holding = { held };
+
+    ghost fixed = { held_fixed };
 
     ghost first = { None };
 

@@ -1,6 +1,7 @@
-use Rattle.std.proofs.Common.{◌≡◌, ℕ, zero, suc, ◌+◌, ◌-◌, ◌<◌, ◌≤◌, min, Bool, true, false, cond, ltb, List, sym, ap, ap₂, ◌∙◌, subst, arith, ⊎_elim}
+use Rattle.std.proofs.Common.{◌≡◌, ℕ, zero, suc, ◌+◌, ◌-◌, ◌<◌, ◌≤◌, min, Bool, true, cond, ltb, List, sym, ap, ap₂, ◌∙◌, subst, arith, ⊎_elim}
 use Rattle.std.proofs.lemmas.Bool.{cases_lt, cond-true, cond-false, lt-ltb, le-ltb}
 use Rattle.reversal.proofs.Flip.{flip, flip_low, flip_high}
+use Rattle.trays.specs.Apart.{Apart}
 use Rattle.trays.specs.Form.{TrayForm, Regular, tray_at}
 use Rattle.trays.specs.Run.{RunReversed, place_on, steps_to}
 use Rattle.trays.proofs.Exchange.{Moved}
@@ -79,12 +80,7 @@ module _ {A : Type 0} (f : TrayForm A) where
   abbrev pub on_plate : ℕ → List A → ℕ → A
   on_plate n xs i = cond (ltb i n) (tray_at f xs i) (f.upright (n + 1))
 
-  -- When two trays of a tower are apart, the one right above the other. Where both are turned over and change places they are apart as before; those that follow each other at home are not apart.
-  pub record Apart (apart : A → A → Bool) : Type 0 where
-    pub turned : (x y : A) → apart (f.sided true y) (f.sided true x) ≡ apart x y
-    pub risen : (v : ℕ) → apart (f.upright v) (f.upright (suc v)) ≡ false
-
-  module _ (apart : A → A → Bool) (law : Apart apart) (reg : Regular f) where
+  module _ (apart : A → A → Bool) (law : Apart f apart) (reg : Regular f) where
     pub plate_home : (n : ℕ) (xs : List A) → Ordered f reg n xs → tally n (apart_at apart (on_plate n xs)) ≡ 0
     plate_home n xs home =
         let at : (i : ℕ) → i ≤ n → on_plate n xs i ≡ f.upright (suc i) =

@@ -10,7 +10,7 @@ pub record TrayForm (A : Type 0) : Type 0 where
   pub stands : ℕ → A → Bool
   -- with this number in place of its own, on the same side
   pub renumbered : ℕ → A → A
-  -- on the other side where the flag says so
+  -- the tray on its other side where the flag is true, and as it is where the flag is false or the kind has no sides
   pub sided : Bool → A → A
   -- the tray that a byte stands for, and the byte of a tray
   pub read : ℕ → A
@@ -18,18 +18,31 @@ pub record TrayForm (A : Type 0) : Type 0 where
 
 -- What every type of trays owes.
 pub record Regular {A : Type 0} (f : TrayForm A) : Type 0 where
+  -- the tray at home of a number has that number
   pub number-upright : (v : ℕ) → f.number (f.upright v) ≡ v
+  -- a renumbered tray has the new number
   pub number-renumbered : (v : ℕ) (t : A) → f.number (f.renumbered v t) ≡ v
+  -- a change of side keeps the number
   pub number-sided : (b : Bool) (t : A) → f.number (f.sided b t) ≡ f.number t
+  -- `stands` holds of the tray at home of the number, and of no other
   pub stands-upright : (v : ℕ) (t : A) → IsTrue (f.stands v t) ↔ (t ≡ f.upright v)
+  -- its own number changes nothing
   pub renumbered_same : (t : A) → f.renumbered (f.number t) t ≡ t
+  -- of two new numbers the later one counts
   pub renumbered_again : (v w : ℕ) (t : A) → f.renumbered v (f.renumbered w t) ≡ f.renumbered v t
+  -- the tray at home of one number, renumbered, is the one of the other
   pub renumbered-upright : (v w : ℕ) → f.renumbered v (f.upright w) ≡ f.upright v
+  -- a new number and a change of side may be given in either order
   pub renumbered-sided : (v : ℕ) (b : Bool) (t : A) → f.renumbered v (f.sided b t) ≡ f.sided b (f.renumbered v t)
+  -- the same change of side twice leads back
   pub sided_twice : (b : Bool) (t : A) → f.sided b (f.sided b t) ≡ t
+  -- two changes of side may be made in either order
   pub sided_swap : (a b : Bool) (t : A) → f.sided a (f.sided b t) ≡ f.sided b (f.sided a t)
+  -- the flag false changes nothing
   pub sided_not : (t : A) → f.sided false t ≡ t
+  -- the byte 0 stands for no tray
   pub read_none : f.read 0 ≡ f.upright 0
+  -- the byte of the tray that a byte stands for is that byte
   pub byte-read : (b : ℕ) → b < 256 → f.byte (f.read b) ≡ b
 
 -- The tray at place i, counted from 0; past the end there is none.

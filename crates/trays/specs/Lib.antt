@@ -1,3 +1,4 @@
+pub mod Apart
 pub mod Arranged
 pub mod AtHome
 pub mod Form

@@ -1,8 +1,8 @@
-use Rattle.std.specs.Prelude.{◌≡◌, ℕ, ◌<◌, ◌≤◌, List, map, Some, None, Ok, Err, Option, Result, ◌≢◌}
+use Rattle.std.specs.Prelude.{◌≡◌, ℕ, ◌<◌, ◌≤◌, List, map, Some, None, Ok, Err, Option, Result, ⊤, ◌≢◌}
 use Rattle.machine.specs.declared.fault.Fault.{Fault}
 use Rattle.machine.specs.declared.fault.Fault.TheVariants.{TrayCount, Span, TrayNumber, TrayRepeated, TrayBeyond, NoSuchTurn}
 use Rattle.trays.specs.declared.settable.Setup.{Setup}
-use Rattle.trays.specs.Form.{TrayForm, number_at, tray_at}
+use Rattle.trays.specs.Form.{TrayForm, number_at, number_tray, tray_at}
 
 -- The rules for setting a machine of n trays. A place counts from 0.
 
@@ -12,7 +12,7 @@ Counted least n = (least ≤ n) × (n ≤ 32)
 
 -- a span, where the kind has one, is from 2 to n
 abbrev pub Spanned : ℕ → Option ℕ → Type 0
-Spanned n None = Unit {0}
+Spanned n None = ⊤
 Spanned n (Some k) = (2 ≤ k) × (k ≤ n)
 
 -- the number at place i, of the numbers f by place, is from 1 to n
@@ -38,6 +38,7 @@ pub record First (P : ℕ → Type 0) (low high i : ℕ) : Type 0 where
   pub fails : P i → ⊥
   pub before : Each P low i
 
+-- the first place from low on and before high without P, or none where each of them has P
 abbrev pub Found : (ℕ → Type 0) → ℕ → ℕ → Option ℕ → Type 0
 Found P low high None = Each P low high
 Found P low high (Some i) = First P low high i
@@ -72,6 +73,17 @@ pub record Holding (A : Type 0) : Type 0 where
 -- What is to be held by a machine that is set so: each byte stands for a tray.
 abbrev pub holding_of : {A S : Type 0} → TrayForm A → (S → Option ℕ) → Setup S → Holding A
 holding_of f spanning setup = record { count = setup.n; span = spanning setup.span; trays = map f.read setup.bytes }
+
+-- What a tower is to hold that is set from n and these bytes, and a ring that also has a span.
+abbrev pub in_tower : {A : Type 0} → TrayForm A → ℕ → List ℕ → Holding A
+in_tower f n bytes = record { count = n; span = None; trays = map f.read bytes }
+
+abbrev pub in_ring : ℕ → ℕ → List ℕ → Holding ℕ
+in_ring n span bytes = record { count = n; span = Some span; trays = map number_tray.read bytes }
+
+-- Every rule for setting a machine to hold this is kept.
+abbrev pub CanHold : {A : Type 0} → TrayForm A → ℕ → Holding A → Type 0
+CanHold f least want = Spanned want.count want.span × Accepted f least want.count want.trays
 
 -- Every rule is kept for what is to be held, and this is held.
 pub record Holds {A : Type 0} (f : TrayForm A) (least : ℕ) (want held : Holding A) : Type 0 where

@@ -22,7 +22,7 @@ pub struct Arrangement<T: Tray> {
     ghost each_once: { IsTrue (permutation T.form n trays) },
 }
 
-// By hand, since the check refuses to derive `Clone` for a generic struct with ghost fields (derive-over-ghost-field).
+// By hand, since the prover refuses to derive `Clone` for a generic struct with ghost fields (derive-over-ghost-field).
 impl<T: Tray> Clone for Arrangement<T> {
     ghost is_clone = { λ a copy. copy ≡ a };
 

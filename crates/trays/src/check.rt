@@ -7,7 +7,7 @@ ghost use Rattle.trays.specs.Setting.{Accepted, Blank, Counted, Each, Found, New
 use crate::tray::Tray;
 use machine::Fault;
 
-// Checks the 32 trays of a machine of n trays: refuses a wrong number of trays, then a wrong span where the kind has one, then numbers that are not 1 to n, each once, then a tray after them. A struct of n and trays that are not checked yet would be no plainer.
+// Checks the 32 trays of a machine of n trays: refuses a wrong number of trays, then a wrong span where the kind has one, then numbers that are not 1 to n, each once, then a tray after them.
 #[tactic(auto, using(crate::proofs::Answering::one_answer))]
 pub fn check_trays<T: Tray>(
     least: u8,
@@ -54,7 +54,7 @@ fn check_span(n: u8, span: Option<u8>) -> Result<(), Fault>
     }
 }
 
-// tried: one struct of n and the trays, by reference and by value, with these four as its methods: the proof did not close that what a method borrows, 32 trays of a generic T, fits in memory.
+// The next four take n and the trays each, since the prover does not find that a struct with 32 trays of a generic T, which a method would borrow, fits in memory.
 
 // The first of n places whose number is not from 1 to n.
 fn misnumbered<T: Tray>(n: u8, trays: &[T; 32]) -> Option<usize>
@@ -67,7 +67,7 @@ fn misnumbered<T: Tray>(n: u8, trays: &[T; 32]) -> Option<usize>
         .position(|tray| !(1..=n).contains(&tray.number()))
 }
 
-// The first of n places whose number stands at an earlier place too. The numbers seen are bits of a word: an array of flags would be no plainer, since its trues would have to be counted in `all_distinct`.
+// The first of n places whose number stands at an earlier place too. The numbers seen are bits of a word, as in `all_distinct`, which counts them.
 #[tactic(auto, using(crate::proofs::Marking::marking))]
 fn repeated<T: Tray>(n: u8, trays: &[T; 32]) -> Option<usize>
     requires few { n ≤ 32 }
@@ -78,7 +78,7 @@ fn repeated<T: Tray>(n: u8, trays: &[T; 32]) -> Option<usize>
         return None;
     }
     let mut seen = 0u32;
-    // tried: `position` with the marks in its closure: the proof did not close, neither that each call may be made nor what the calls answered.
+    // A loop, since the prover does not find what a `position` answers whose closure changes the marks.
     for (i, tray) in trays[..n as usize].iter().enumerate() {
         let mark = 1 << (tray.number() - 1);
         if seen & mark != 0 {
@@ -98,7 +98,7 @@ fn all_distinct<T: Tray>(n: u8, trays: &[T; 32]) -> bool
     ensures cases { IsTrue result ↔ (Each (New (number_at T.form trays.now)) 0 n) }
 {
     let mut marks = 0u32;
-    // A `fold` would be no plainer: its closure does not know which tray it is given, so the subtraction and the shift would have to wrap.
+    // A loop, since in the closure of a `fold` it is not known that the number is from 1 to n, which the subtraction and the shift need.
     for tray in &trays[..n as usize] {
         marks |= 1 << (tray.number() - 1);
     }

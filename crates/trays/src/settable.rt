@@ -4,7 +4,7 @@ ghost use Rattle.trays.specs.Setting.{Holding, Sets, holding_of};
 
 use machine::{Fault, Machine};
 
-// What a machine is set from: the number of trays, a span where its kind has one, and 32 tray bytes. A slice of n bytes would be no plainer: those past n are looked at too.
+// What a machine is set from: the number of trays, a span where its kind has one, and all 32 tray bytes, since those past n are checked too.
 #[derive(Clone, Copy, PartialEq, Eq, Debug)]
 pub struct Setup<S> {
     pub n: u8,
@@ -36,6 +36,9 @@ pub trait Settable: Machine {
     ghost spanning: { Self.Span → Option ℕ };
 
     ghost holding: { Self → Holding Self.Tray };
+
+    // A machine is fixed by what it holds.
+    ghost fixed: { (s t : Self) → holding s ≡ holding t → s ≡ t };
 
     // the span of a new machine
     ghost first: { Option ℕ };

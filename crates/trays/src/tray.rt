@@ -12,14 +12,14 @@ pub trait Tray: Copy {
     fn upright(number: u8) -> Self
         ensures { result ≡ form.upright number };
 
-    // The tray that a byte stands for. A bound `From<u8>` would be no plainer: a law would have to tie what it gives to `form`.
+    // The tray that a byte stands for.
     fn from_byte(byte: u8) -> Self
         ensures { result ≡ form.read byte };
 
     fn number(&self) -> u8
         ensures { result ≡ form.number self.now };
 
-    // Whether it is the tray of this number as it stands at home. An `==` with `upright` would be no plainer: the number may be above 255, and a law would have to say that `==` tells trays apart.
+    // Whether it is the tray of this number as it stands at home. The number may be above 255.
     fn stands(&self, number: usize) -> bool
         ensures { result ≡ form.stands number self.now };
 

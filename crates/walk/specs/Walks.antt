@@ -39,6 +39,7 @@ module _ {S M : Type 0} (m : Meaning S) (state : M → S) where
     pub none : length (made p) ≤ 64 → later m (made p) (state p.here) (tried p) ≡ []
     pub same : q ≡ p
 
+  -- What going one turn further answers and leaves.
   abbrev pub WentDown : Walk M → Bool → Walk M → Type 0
   WentDown p true q = Down p q
   WentDown p false q = NoneLeft p q
@@ -57,6 +58,7 @@ module _ {S M : Type 0} (m : Meaning S) (state : M → S) where
     pub none_tried : tried q ≡ 0
     pub same : q.here ≡ p.here
 
+  -- What going one turn back answers and leaves.
   abbrev pub WentBack : Walk M → Bool → Walk M → Type 0
   WentBack p true q = Back p q
   WentBack p false q = (root : S) → Leads m root (made p) (state p.here) → AtStart p q
@@ -74,6 +76,7 @@ module _ {S M : Type 0} (m : Meaning S) (state : M → S) where
     pub at_root : state q.here ≡ root
     pub none_left : xs ≡ []
 
+  -- Where the walk is once it has gone on: at the next look of the round, or the round is over.
   abbrev pub Went : (S → ℕ) → ℕ → S → List Look → Bool → Walk M → Type 0
   Went e threshold root xs true q = Stands e threshold root xs q
   Went e threshold root xs false q = Over root xs q

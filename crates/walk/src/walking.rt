@@ -84,7 +84,7 @@ impl<M: Machine + Drop> Walk<M> {
     fn go_down(&mut self) -> bool
         ensures { WentDown M.meaning M.state self.old result self.new }
     {
-        // so deep there is no room for one more
+        // 64 is the highest limit of a load: a state that is deeper is never continued
         if self.depth() > 64 {
             return false;
         }

@@ -1,18 +1,27 @@
-use Rattle.std.proofs.Common.{◌≡◌, List, [], ◌∷◌, map, refl, ap, ap₂}
+use Rattle.std.proofs.Common.{◌≡◌, ℕ, min, List, [], ◌∷◌, ◌++◌, map, take, drop, refl, ap, ap₂, ◌∙◌, take-append-drop}
+use Rattle.std.proofs.lemmas.List.{map-id}
 use Rattle.gaps.specs.Counts.{tower_count, apart_count}
 use Rattle.std.specs.List.{AllByRecursion}
+use Rattle.reversal.specs.Reversed.{flipped}
 use Rattle.search.specs.Search.{Search}
 use Rattle.towers.specs.Laws.{same_tower}
 use Rattle.towers.specs.Towers.{mirrored}
+use Rattle.trays.specs.Form.{number_tray}
 use Rattle.trays.specs.Permutation.{permutation, every, some, last, in_order, inverse}
 use Rattle.trays.specs.Run.{partner, run_turned}
-use Rattle.worked.specs.Stacks.{three_away_one_two, away_two_three_one}
-use Rattle.worked.specs.Worked.{WorkedStacks, worked_searches}
+use Rattle.trays.specs.Sides.{turned_over}
+use Rattle.worked.specs.Machines.{three_away_one_two, away_two_three_one}
+use Rattle.worked.specs.Worked.{WorkedExamples, worked_searches}
 
--- Each fact is shown by computing both its sides.
-pub worked_stacks : WorkedStacks
+-- Trays without sides are only turned round.
+only_turned_round : (k : ℕ) (xs : List ℕ) → turned_over number_tray k (flipped k xs) ≡ flipped k xs
+only_turned_round k xs = ap (λ (l : List ℕ). l ++ drop k (flipped k xs)) (map-id (take k (flipped k xs))) ∙ take-append-drop k (flipped k xs)
+
+-- Each other fact is shown by computing both its sides.
+pub worked_examples : WorkedExamples
 unfolding worked_searches permutation every some last in_order inverse partner run_turned tower_count apart_count
-worked_stacks = record {
+worked_examples = record {
+  plain_turn = λ s k. only_turned_round (min k s.arrangement.n) s.arrangement.trays;
   one_gaps = refl;
   two_gaps = refl;
   three_gaps = refl;
@@ -38,4 +47,4 @@ looks_told (w ∷ ws) same = ap₂ (λ x l. x ∷ l) (ap (λ x. x.looks) same.0)
 
 pub looks_counted : map (λ w. w.0.looks) worked_searches ≡ 1 ∷ 2 ∷ 1 ∷ 7 ∷ 4 ∷ 3 ∷ 1 ∷ 13 ∷ 2 ∷ 13 ∷ 10 ∷ 11 ∷ 2 ∷ 9 ∷ []
 unfolding worked_searches
-looks_counted = looks_told worked_searches worked_stacks.searches
+looks_counted = looks_told worked_searches worked_examples.searches

@@ -1,22 +1,23 @@
-use Rattle.std.specs.Prelude.{◌≡◌, ℕ, false, List, [], ◌∷◌, Some, None}
+use Rattle.std.specs.Prelude.{◌≡◌, ℕ, false, min, List, [], ◌∷◌, Some, None}
 use Rattle.estimate.specs.Layers.{look_ahead, dual_lookup}
 use Rattle.gaps.specs.Counts.{gaps, breakpoints, ring_gaps, half_gaps}
 use Rattle.machine.specs.Meaning.{Meaning}
+use Rattle.reversal.specs.Reversed.{flipped}
 use Rattle.ring.specs.Ring.{ring}
 use Rattle.std.specs.List.{AllByRecursion}
 use Rattle.search.specs.Search.{search, Search}
 use Rattle.towers.specs.Towers.{tower, mirrored}
-use Rattle.worked.specs.Stacks.{PlainStack, SidedStack, one, two_one, one_three_two, one_two_four_three, away_one, away_one_away_two, two_three_one, one_away_two_three, three_away_one_two, away_two_three_one, ring_two_one_three_four, ring_two_one_four_three, ring_two_three_four_one}
+use Rattle.worked.specs.Machines.{PlainTower, SidedTower, one, two_one, one_three_two, one_two_four_three, away_one, away_one_away_two, two_three_one, one_away_two_three, three_away_one_two, away_two_three_one, ring_two_one_three_four, ring_two_one_four_three, ring_two_three_four_one}
 
 -- What a plain and a sided tower mean.
-abbrev pub plain : Meaning PlainStack
+abbrev pub plain : Meaning PlainTower
 plain = tower 2
 
-abbrev pub sided : Meaning SidedStack
+abbrev pub sided : Meaning SidedTower
 sided = tower 1
 
 -- Dual lookup over look-ahead over gaps.
-abbrev pub piled : PlainStack → ℕ
+abbrev pub piled : PlainTower → ℕ
 piled = dual_lookup mirrored (look_ahead plain gaps)
 
 -- What a search gives: this plan or none, after so many looks.
@@ -45,8 +46,9 @@ worked_searches =
     ∷ (search ring half_gaps 64 ring_two_one_four_three, found 9 (1 ∷ 3 ∷ []))
     ∷ []
 
--- What the definitions give at small stacks. The rings have span 2.
-pub record WorkedStacks : Type 0 where
+-- What the definitions give at small machines, and that a turn of a plain tower only turns its trays round. The rings have span 2.
+pub record WorkedExamples : Type 0 where
+  pub plain_turn : (s : PlainTower) (k : ℕ) → (plain.after s k).arrangement.trays ≡ flipped (min k s.arrangement.n) s.arrangement.trays
   pub one_gaps : gaps one ≡ 0
   pub two_gaps : gaps two_one ≡ 1
   pub three_gaps : gaps one_three_two ≡ 2

@@ -1,16 +1,16 @@
 #![tactic(auto)]
 
 ghost use Rattle.std.specs.Prelude.{◌≡◌, map};
-ghost use Rattle.worked.specs.Worked.{WorkedStacks, piled, plain, sided, worked_searches};
+ghost use Rattle.worked.specs.Worked.{WorkedExamples, piled, plain, sided, worked_searches};
 
 use estimate::{DualLookup, LookAhead};
 use gaps::Gaps;
 use towers::{PlainTower, SidedTower};
 
 // How many looks each of the worked searches makes. `plain`, `sided` and `piled` are what the machines and the estimate of these types mean.
-#[tactic(auto, using(crate::proofs::Worked::worked_stacks, crate::proofs::Worked::looks_counted))]
+#[tactic(auto, using(crate::proofs::Worked::worked_examples, crate::proofs::Worked::looks_counted))]
 pub fn worked_looks() -> [u8; 14]
-    ensures stacks { WorkedStacks }
+    ensures examples { WorkedExamples }
     ensures looks { result ≡ map (λ w. w.0.looks) worked_searches }
     ensures plain { ⟦<PlainTower as machine::Machine>⟧.meaning ≡ plain }
     ensures sided { ⟦<SidedTower as machine::Machine>⟧.meaning ≡ sided }

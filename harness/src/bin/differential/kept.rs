@@ -9,7 +9,7 @@ use harness::told::Told;
 
 use crate::pool::Pool;
 use crate::tally::Tally;
-use crate::tapes::{MOST_BYTES, tape};
+use crate::tapes::{LONGEST_TAPE, tape};
 
 /// One call of a console.
 struct Call<'t> {
@@ -144,7 +144,7 @@ fn refused_call(
     let causes = random.between(1, 7);
     let mut long = tape.to_vec();
     if causes & 1 != 0 {
-        long.resize(MOST_BYTES + random.pick(&[1, 2, 500]), b'D');
+        long.resize(LONGEST_TAPE + random.pick(&[1, 2, 500]), b'D');
     }
     let (length, inside) = (long.len(), random.index(long.len() + 1));
     let beyond = random.pick(&[length + 1, length + 2, length + 65_536, usize::MAX]);

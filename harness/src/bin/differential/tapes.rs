@@ -7,7 +7,7 @@ use crate::faults;
 use crate::pool::{Pool, Solved};
 
 /// The most bytes of a tape that is read.
-pub const MOST_BYTES: usize = 4_096;
+pub const LONGEST_TAPE: usize = 4_096;
 
 /// Grants at the edges of what is accepted.
 const EDGE_GRANTS: [u32; 14] = [
@@ -157,7 +157,7 @@ impl<'p> Maker<'p> {
             }
             tape.extend(b"FF");
         }
-        tape.truncate(MOST_BYTES);
+        tape.truncate(LONGEST_TAPE);
         tape
     }
 

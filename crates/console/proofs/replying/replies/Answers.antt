@@ -1,4 +1,4 @@
-use Rattle.console.proofs.Once.{long_alike, one_reply}
+use Rattle.console.proofs.Unique.{long_alike, one_reply}
 use Rattle.console.proofs.replying.replies.Goals as goal
 
 pub returns-in_err-new-clause-one : goal.returns-in_err-new-clause-one

@@ -3,7 +3,7 @@ use Rattle.std.specs.Iterator.{ActsAsOnTwo}
 use Rattle.gaps.specs.Counts.{tower_count}
 use Rattle.gaps.proofs.Least.{least_from}
 use Rattle.towers.specs.Towers.{turned}
-use Rattle.trays.proofs.Neighbours.{Apart}
+use Rattle.trays.specs.Apart.{Apart}
 use Rattle.gaps.proofs.counting.least_on_plate.Given as goal
 
 abbrev pub invariant-loop-k : goal.invariant-loop-k

@@ -1,10 +1,14 @@
-use Rattle.std.proofs.Common.{None, map, replicate, sym, subst}
+use Rattle.std.proofs.Common.{◌≡◌, ℕ, List, None, map, min, replicate, vec_items, sym, subst, arith}
 use Rattle.planner.specs.Calls.{on_state}
 use Rattle.planner.specs.Promise.{Run}
+use Rattle.planner.specs.declared.played.Played.{Played}
 use Rattle.task.specs.Verdicts.{calls_within}
 use Rattle.task.proofs.planning.plan_within.Goals as goal
 
 pub returns : goal.returns
 returns g c =
     let e = g.E.Estimate.value c.args.estimate in
-    c.read.ensures e c.args.limit (subst (Run g.M.Machine.meaning e None (replicate 64 0) (map (on_state g.M.Machine.state) (calls_within c.args.machine c.args.limit))) (sym c.deref.ensures.value) c.in_ok-replies.ensures)
+    let run = λ (looks : ℕ) (rs : List Played). Run g.M.Machine.meaning e None (replicate 64 0) (map (on_state g.M.Machine.state) (calls_within c.args.machine c.args.limit looks)) rs in
+    let granted : c.min.result ≡ min c.args.looks 2000000000 = omega arith in
+    c.read.ensures e c.args.limit (min c.args.looks 2000000000) (omega arith)
+    (subst (run (min c.args.looks 2000000000)) (sym c.deref.ensures.value) (subst (λ (looks : ℕ). run looks (vec_items c.in_ok-replies.replies)) granted c.in_ok-replies.ensures))

@@ -16,5 +16,5 @@ returns-in-Some g c = λ limit s xs x.
     let asked = ap (λ y. e (state y)) c.here.ensures in
     let set = threshold_set limit p.limit (e (state (machine p.walk))) (e (state c.here.result.now)) c.first_threshold-self.result (Some t) x.same_limit asked c.first_threshold-self.ensures.threshold c.in-Some.is in
     let b = first_begins m state e limit s (unbounded m e) p.least p.walk xs t before set in
-    c.keep.ensures e limit s t xs c.in-Some.is b.1
+    c.look_not_cut.ensures e limit s t xs c.in-Some.is b.1
     (record { same_limit = x.same_limit; waits = subst (λ o. Waits m state e limit s o p.least p.walk xs) (sym c.in-Some.is) b.0 })

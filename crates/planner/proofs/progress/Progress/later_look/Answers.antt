@@ -16,7 +16,7 @@ returns-then-total-from g c = λ limit s xs x.
     let total = total_is c.from.result c.depth.result c.from-2.result c.ask.result (length (made p.walk)) (e (state (machine p.walk))) c.from.ensures c.depth.ensures c.from-2.ensures asked in
     let same = c.from-3.ensures in
     let fits = c.if-total-from.true in
-    c.keep.ensures e limit s c.args.threshold xs c.requires (omega arith) x
+    c.look_not_cut.ensures e limit s c.args.threshold xs c.requires (omega arith) x
 
 pub returns : goal.returns
 returns g c = λ limit s xs x.

@@ -1,0 +1,5 @@
+use Rattle.text.proofs.Beginning.{written}
+use Rattle.text.proofs.reader.Reader.finish.Goals as goal
+
+pub returns : goal.returns
+returns c ws = written _ _ _ _ _ _ ws c.requires

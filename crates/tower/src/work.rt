@@ -1,0 +1,162 @@
+use crate::drawing::{Block, Row};
+use crate::line::Line;
+use crate::shown::{Counted, Listed, Reason, count_name};
+use machine::{Ending, Fault, Trace, TurnRange};
+use planner::HIGHEST_LIMIT;
+use std::fmt::Display;
+use std::{io, iter};
+use task::{Done, Estimates, Outcome, Planned, Work};
+use text::Kind;
+use trays::{Settable, Tray};
+
+// Prints the machine and what was done with it.
+pub(crate) fn show(rt: &HostRuntime, line: Line<'_>, outcome: &Outcome) -> io::Result<()> {
+    match outcome {
+        Outcome::Plain(work) => show_work(rt, line, Kind::Plain, None, work),
+        Outcome::Sided(work) => show_work(rt, line, Kind::Sided, None, work),
+        Outcome::Ring(work) => show_work(rt, line, Kind::Ring, Some(work.start.span()), work),
+    }
+}
+
+fn show_work<M: Settable>(
+    rt: &HostRuntime,
+    line: Line<'_>,
+    kind: Kind,
+    span: Option<u8>,
+    work: &Work<M>,
+) -> io::Result<()>
+where
+    M::Tray: Tray + Display,
+{
+    let Work { start, done } = work;
+    let shown = Shown {
+        line,
+        kind,
+        span,
+        start,
+    };
+    shown.all(rt, done)
+}
+
+// A machine as it was set for a line. A ring has a span.
+#[derive(Clone, Copy)]
+struct Shown<'a, M> {
+    line: Line<'a>,
+    kind: Kind,
+    span: Option<u8>,
+    start: &'a M,
+}
+
+impl<'a, M: Settable> Shown<'a, M>
+where
+    M::Tray: Tray + Display,
+{
+    // Prints the machine, and what was done with it.
+    fn all(&self, rt: &HostRuntime, done: &Done<M>) -> io::Result<()> {
+        print!(rt; "{}{}", self.kind, Listed(self.start.trays()))?;
+        if let Some(k) = self.span {
+            print!(rt; " span {k}")?;
+        }
+        println!(rt)?;
+        match done {
+            Done::Followed(turns, trace) => self.followed(rt, turns, trace),
+            Done::Mirrored(dual) => println!(rt; "dual:{}", Listed(dual.trays())),
+            Done::Estimated(estimates) => self.estimated(rt, estimates),
+            Done::Planned(limit, planned) => self.planned(rt, *limit, planned),
+        }
+    }
+
+    // Prints the estimates of the turns that the machine still needs.
+    fn estimated(&self, rt: &HostRuntime, estimates: &Estimates) -> io::Result<()> {
+        let Estimates {
+            count,
+            look_ahead,
+            dual_lookup,
+        } = estimates;
+        println!(rt; "{}: {count}", count_name(self.kind))?;
+        println!(rt; "look-ahead: {look_ahead}")?;
+        println!(rt; "dual over look-ahead: {dual_lookup}")
+    }
+
+    // Prints the turns that were made, and how they ended.
+    fn followed(&self, rt: &HostRuntime, turns: &[u8], trace: &Trace<M>) -> io::Result<()> {
+        self.draw(rt, turns, &trace.states)?;
+        let made = trace.states.len();
+        match trace.ending {
+            Ending::Home => println!(rt; "home after {}", Counted(made, "turn")),
+            Ending::NotHome => println!(rt; "not home after {}", Counted(made, "turn")),
+            Ending::Refused(fault) => self.refused(rt, turns.get(made).copied(), fault),
+        }
+    }
+
+    // Says that a turn was refused, and which turns there are.
+    fn refused(&self, rt: &HostRuntime, turn: Option<u8>, fault: Fault) -> io::Result<()> {
+        let line = self.line;
+        let kind = self.kind;
+        let number = fault.number();
+        print!(rt; "{line}refused {number}")?;
+        if let Some(k) = turn {
+            print!(rt; " at turn {k}")?;
+        }
+        print!(rt; ": {}", Reason { kind, fault })?;
+        let TurnRange { lowest, highest } = self.start.range();
+        if lowest <= highest {
+            println!(rt; ", but those from {lowest} to {highest}")
+        } else {
+            println!(rt; ", nor any other")
+        }
+    }
+
+    // Prints the plan, or why there is none. The limit is all that is refused of a search.
+    fn planned(&self, rt: &HostRuntime, limit: u8, planned: &Planned<M>) -> io::Result<()> {
+        let line = self.line;
+        let within = Counted(limit, "turn");
+        match planned {
+            Planned::Refused(fault) => {
+                let number = fault.number();
+                println!(rt; "{line}refused {number}: the limit must be from 0 to {HIGHEST_LIMIT}")
+            }
+            Planned::Found(turns, trace, looks) => {
+                let length = Counted(turns.len(), "turn");
+                let looks = Counted(*looks, "look");
+                println!(rt; "plan of {length}, the fewest, after {looks}")?;
+                self.draw(rt, turns, &trace.states)
+            }
+            Planned::NoPlan(looks) => {
+                let looks = Counted(*looks, "look");
+                println!(rt; "no plan within the limit of {within}, after {looks}")
+            }
+            Planned::Unfinished(looks) => {
+                let looks = Counted(*looks, "look");
+                println!(rt; "no answer within {looks}: there may be a plan within {within}")
+            }
+        }
+    }
+
+    // Draws the trays before each turn that was made, with the block that it turns over, and after the last.
+    fn draw(&self, rt: &HostRuntime, turns: &[u8], after: &[M]) -> io::Result<()> {
+        let Some(last) = after.last() else {
+            return Ok(());
+        };
+        let n = self.start.trays().len();
+        let digits = if n > 9 { 2 } else { 1 };
+        let width = digits + usize::from(self.kind == Kind::Sided);
+        let before = iter::once(self.start).chain(after).take(after.len());
+        for (k, state) in turns.iter().zip(before) {
+            let row = Row {
+                trays: state.trays(),
+                width,
+                block: Some(Block::of(*k, self.span, n)),
+            };
+            println!(rt; "turn {k:>digits$}: {row}")?;
+        }
+        let label = if last.is_home() { "home:" } else { "then:" };
+        let indent = digits + 6;
+        let row = Row {
+            trays: last.trays(),
+            width,
+            block: None,
+        };
+        println!(rt; "{label:<indent$} {row}")
+    }
+}
