@@ -207,7 +207,7 @@ fn what_is_expected(rt: HostRuntime) -> Result<(), Fail> {
     check_told(
         &rt,
         Expected::Tray,
-        "a tray (0 to 255, or -0 to -127), `count`, `turns`, `dual`, `estimate` or `plan`",
+        "a tray (as 3, or -3 in a sided tower), `count`, `turns`, `dual`, `estimate` or `plan`",
     )?;
     check_told(
         &rt,

@@ -41,16 +41,18 @@ fn explain(rt: &HostRuntime, line: Line<'_>, at: usize, expected: Expected) -> i
     println!(rt)
 }
 
-// Says why a machine of this kind was not set, and which tray is at fault. The trays are the words after the kind.
+// Says why a machine of this kind was not set, and at which tray. The trays are the words after the kind, up to `count`.
 fn refuse(rt: &HostRuntime, line: Line<'_>, kind: Kind, fault: Fault) -> io::Result<()> {
     let number = fault.number();
-    print!(rt; "{line}refused {number}")?;
-    if let Some(i) = fault.index() {
-        let place = i.saturating_add(1);
-        print!(rt; " at tray {place}")?;
-        if let Some(word) = line.word(place) {
-            print!(rt; ", `{word}`")?;
+    let reason = Reason { kind, fault };
+    let Some(i) = fault.index() else {
+        return println!(rt; "{line}refused {number}: {reason}");
+    };
+    let place = i.saturating_add(1);
+    match line.word(place) {
+        Some(word) if word != "count" => {
+            println!(rt; "{line}refused {number} at place {place}, `{word}`: {reason}")
         }
+        _ => println!(rt; "{line}refused {number} at place {place}: the line has no tray there"),
     }
-    println!(rt; ": {}", Reason { kind, fault })
 }

@@ -1,7 +1,7 @@
 use std::fmt;
 use trays::Tray;
 
-// The block that a turn turns over: the trays from index `from` on and before index `to`, counted round in a ring.
+// The block that a turn turns over: the trays from index `from` on and before index `to`, counted round in a ring. Where both are the same, it has all trays.
 #[derive(Clone, Copy)]
 pub(crate) struct Block {
     from: usize,

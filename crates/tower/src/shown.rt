@@ -49,8 +49,12 @@ impl fmt::Display for Reason {
             (Fault::TrayCount, Kind::Ring) => "the number of trays must be from 4 to 32",
             (Fault::TrayCount, _) => "the number of trays must be from 1 to 32",
             (Fault::Span, _) => "the span must be from 2 to the number of trays",
+            (Fault::TrayNumber(_), Kind::Sided) => {
+                "its number, without a minus sign, must be from 1 to the number of trays"
+            }
             (Fault::TrayNumber(_), _) => "it must be from 1 to the number of trays",
-            (Fault::TrayRepeated(_), _) => "it stands at an earlier place too, and may stand once",
+            (Fault::TrayRepeated(_), _) =>
+                "its number stands at an earlier place too, and may stand once",
             (Fault::TrayBeyond(_), _) => "it stands after the last tray, where only 0 may stand",
             (Fault::NoSuchTurn, Kind::Ring) => "the ring does not have this turn",
             (Fault::NoSuchTurn, _) => "the tower does not have this turn",

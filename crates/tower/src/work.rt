@@ -9,7 +9,7 @@ use task::{Done, Estimates, Outcome, Planned, Work};
 use text::Kind;
 use trays::{Settable, Tray};
 
-// Prints the machine and what was done with it.
+// Prints what came of a line, by the kind of its machine.
 pub(crate) fn show(rt: &HostRuntime, line: Line<'_>, outcome: &Outcome) -> io::Result<()> {
     match outcome {
         Outcome::Plain(work) => show_work(rt, line, Kind::Plain, None, work),
@@ -38,7 +38,7 @@ where
     shown.all(rt, done)
 }
 
-// A machine as it was set for a line. A ring has a span.
+// A machine as it was set for a line, and its span, if it is a ring.
 #[derive(Clone, Copy)]
 struct Shown<'a, M> {
     line: Line<'a>,
