@@ -2,11 +2,13 @@ use Rattle.std.proofs.Common.{◌≡◌, Bool, true, false, Some, Option, refl, 
 use Rattle.std.proofs.lemmas.Bool.{true≢false}
 use Rattle.planner.specs.Calls.{Task, at_work, doing}
 use Rattle.planner.specs.Holds.{Holds}
-use Rattle.ring.specs.declared.kind.TrayRing.{TrayRing}
-use Rattle.console.specs.declared.planners.Console.{Console}
+use Rattle.ring.specs.declared.tray_ring.TrayRing.{TrayRing}
+use Rattle.console.specs.declared.console.Console.{Console}
 use Rattle.console.specs.Histories.{History, none, plain_task, sided_task, ring_task, busy}
 use Rattle.console.specs.Holds.{Rests, Stands}
-use Rattle.console.specs.Kinds.{PlainTower, SidedTower, plain, sided, ring, plain_estimate, sided_estimate, ring_estimate}
+use Rattle.gaps.specs.Kinds.{plain_estimate, sided_estimate, ring_estimate}
+use Rattle.ring.specs.Ring.{ring}
+use Rattle.towers.specs.Kinds.{PlainTower, SidedTower, plain, sided}
 
 -- Each planner holds a task, or none, that is at work only where the history's is.
 

@@ -1,9 +1,10 @@
 mod Busy
 mod Loaded
-mod Standing
-mod Staying
+mod StandsAfter
+mod RestKept
 mod SoFar
-mod Readings
-mod Loadings
-mod Askings
+mod ReadsOnce
+mod LoadsOnce
+mod AskedOnce
 mod Unique
+mod Written

@@ -20,14 +20,18 @@ use Rattle.towers.specs.Towers as towers
 use Rattle.towers.specs.Tray.{sided_tray}
 use Rattle.trays.specs.Form.{number_tray}
 use Rattle.std.specs.Int.{w32, from_be_bytes}
+use Rattle.console.specs.Calls.{call_of}
 use Rattle.console.specs.Commanded.{Answered, AskedOf, ring_load, tower_load}
 use Rattle.console.specs.Histories.{History, none, plain_task, sided_task, ring_task, busy}
-use Rattle.console.specs.Kinds.{plain, sided, ring, plain_estimate, sided_estimate, ring_estimate}
+use Rattle.gaps.specs.Kinds.{plain_estimate, sided_estimate, ring_estimate}
+use Rattle.ring.specs.Ring.{ring}
+use Rattle.towers.specs.Kinds.{plain, sided}
 use Rattle.console.specs.Loads.{Loads}
+use Rattle.console.specs.declared.console.TheConstants.{LONGEST_TAPE}
 use Rattle.console.specs.Tapes.{After, ComesOf, LongAlike, OneReply, OneStep, Step, placed_reply}
-use Rattle.console.proofs.Askings.{asked_once}
-use Rattle.console.proofs.Loadings.{accepted_load, loads_once}
-use Rattle.console.proofs.Readings.{SameCommand, SameReading, reads_once}
+use Rattle.console.proofs.AskedOnce.{asked_once}
+use Rattle.console.proofs.LoadsOnce.{accepted_load, loads_once}
+use Rattle.console.proofs.ReadsOnce.{SameCommand, SameReading, reads_once}
 
 -- The rules leave one reply.
 
@@ -97,8 +101,8 @@ answered_once place h (Ring m) (Ring n) e r q v w a b x y =
     let one = loads_once (λ s. s) number_tray 4 rings.held (λ s t p k is. same_ring s t (ap₂ (λ (n m : ℕ). (n, m)) p (cc k)) is) ring_task (busy h) (slice_index m.now 0) (ring_load m.now) h r q a b x load in
     (one.1, loaded_bytes place (Ring m) (Ring n) e r q one.0 (accepted_load (λ s. s) number_tray 4 rings.held ring_task (busy h) (slice_index m.now 0) (ring_load m.now) h r a x) v w)
 answered_once place h (Work m) (Work n) e r q v w a b x y =
-    asked_same place (Work m) (Work n) e h (λ _. call.Work (from_be_bytes w32 m.now)) r q v w a b x (subst (λ xs. AskedOf h (λ _. call.Work (from_be_bytes w32 xs)) q w b) (sym e) y)
-answered_once place h Go Go e r q v w a b x y = asked_same place Go Go e h (λ _. call.Work 10000) r q v w a b x y
+    asked_same place (Work m) (Work n) e h (λ _. call_of (Work m)) r q v w a b x (subst (λ xs. AskedOf h (λ _. call.Work (from_be_bytes w32 xs)) q w b) (sym e) y)
+answered_once place h Go Go e r q v w a b x y = asked_same place Go Go e h (λ _. call_of Go) r q v w a b x y
 answered_once place h Fetch Fetch e r q v w a b x y = asked_same place Fetch Fetch e h (λ _. call.Fetch) r q v w a b x y
 answered_once place h Drop Drop e r q v w a b x y = asked_same place Drop Drop e h (λ _. call.Drop) r q v w a b x y
 answered_once place h c d e r q v w a b x y = absurd e
@@ -169,12 +173,12 @@ ends_once tape n m h k xs ys x y =
 pub one_reply : OneReply
 one_reply tape xs ys x y =
     ⊎_elim
-    (λ (long : 4096 < length tape). x.too_long long ∙ sym (y.too_long long))
-    (λ (fits : length tape ≤ 4096).
+    (λ (long : LONGEST_TAPE < length tape). x.too_long long ∙ sym (y.too_long long))
+    (λ (fits : length tape ≤ LONGEST_TAPE).
     let a = x.to_end fits in
     let b = y.to_end fits in
     ends_once tape a.0 b.0 a.1 b.1 xs ys a.2 b.2)
-    (cases_lt 4096 (length tape))
+    (cases_lt LONGEST_TAPE (length tape))
 
 pub long_alike : LongAlike
 long_alike tape more replies long x =

@@ -1,11 +1,9 @@
 use Rattle.std.specs.Prelude.{◌≡◌, ℕ, List, map, drop, replicate, slice_index, Some, None, Option, Ok, Err, Result}
-use Rattle.std.specs.Int.{w32, from_be_bytes}
 use Rattle.machine.specs.Meaning.{Meaning}
 use Rattle.planner.specs.Calls.{Task, after}
 use Rattle.planner.specs.Promise.{Kept}
 use Rattle.planner.specs.declared.answer.Answer.{Answer}
 use Rattle.planner.specs.declared.call.Call.{Call}
-use Rattle.planner.specs.declared.call.Call.TheVariants as call
 use Rattle.planner.specs.declared.fault.Fault as planner
 use Rattle.ring.specs.Ring as rings
 use Rattle.tape.specs.declared.command.Command.{Command}
@@ -15,9 +13,13 @@ use Rattle.tape.specs.declared.fault.Fault.TheVariants.{Planner}
 use Rattle.towers.specs.Towers as towers
 use Rattle.towers.specs.Tray.{sided_tray}
 use Rattle.trays.specs.Form.{TrayForm, number_tray}
-use Rattle.trays.specs.Setting.{Holding, in_ring, in_tower}
+use Rattle.trays.specs.Settable.{Holding, in_ring, in_tower}
+use Rattle.walk.specs.declared.sheet.TheConstants.{SHEET_PLACES}
+use Rattle.console.specs.Calls.{call_of}
 use Rattle.console.specs.Histories.{History, none, plain_task, sided_task, ring_task, busy, history_of}
-use Rattle.console.specs.Kinds.{plain, sided, ring, plain_estimate, sided_estimate, ring_estimate}
+use Rattle.gaps.specs.Kinds.{plain_estimate, sided_estimate, ring_estimate}
+use Rattle.ring.specs.Ring.{ring}
+use Rattle.towers.specs.Kinds.{plain, sided}
 use Rattle.console.specs.Loads.{Loads}
 
 -- What a tower is to hold by the operands of its load: byte 0 is the limit, byte 1 the number of trays, and the others are the trays.
@@ -37,7 +39,7 @@ carried (Err f) = Err (Planner f)
 pub record Asked {S : Type 0} (m : Meaning S) (e : S → ℕ) (of : Task S → History) (task : Option (Task S)) (call : Call S) (r : Result Answer Fault) (sheet : List ℕ) (next : History) : Type 0 where
   pub reply : Result Answer planner.Fault
   pub reply_is : r ≡ carried reply
-  pub kept : Kept m e task call (replicate 64 0) reply sheet
+  pub kept : Kept m e task call (replicate SHEET_PLACES 0) reply sheet
   pub next_is : next ≡ history_of of (after m e task call)
 
 -- The planner of the history is asked. Where there is no task an empty one is, and those of all kinds reply the same.
@@ -55,7 +57,7 @@ Answered h (Sided bytes) r sheet next =
     Loads (λ s. s) sided_tray 1 towers.held sided_task (busy h) (slice_index bytes.now 0) (tower_load sided_tray bytes.now) h r next
 Answered h (Ring bytes) r sheet next =
     Loads (λ s. s) number_tray 4 rings.held ring_task (busy h) (slice_index bytes.now 0) (ring_load bytes.now) h r next
-Answered h (Work bytes) r sheet next = AskedOf h (λ _. call.Work (from_be_bytes w32 bytes.now)) r sheet next
-Answered h Go r sheet next = AskedOf h (λ _. call.Work 10000) r sheet next
-Answered h Fetch r sheet next = AskedOf h (λ _. call.Fetch) r sheet next
-Answered h Drop r sheet next = AskedOf h (λ _. call.Drop) r sheet next
+Answered h (Work bytes) r sheet next = AskedOf h (λ _. call_of (Work bytes)) r sheet next
+Answered h Go r sheet next = AskedOf h (λ _. call_of Go) r sheet next
+Answered h Fetch r sheet next = AskedOf h (λ _. call_of Fetch) r sheet next
+Answered h Drop r sheet next = AskedOf h (λ _. call_of Drop) r sheet next

@@ -1,7 +1,9 @@
 use Rattle.std.specs.Prelude.{Bool, false, Some, None, Option}
 use Rattle.planner.specs.Calls.{Task, at_work, doing}
-use Rattle.ring.specs.declared.kind.TrayRing.{TrayRing}
-use Rattle.console.specs.Kinds.{PlainTower, SidedTower, plain, sided, ring, plain_estimate, sided_estimate, ring_estimate}
+use Rattle.ring.specs.declared.tray_ring.TrayRing.{TrayRing}
+use Rattle.gaps.specs.Kinds.{plain_estimate, sided_estimate, ring_estimate}
+use Rattle.ring.specs.Ring.{ring}
+use Rattle.towers.specs.Kinds.{PlainTower, SidedTower, plain, sided}
 
 -- What the commands so far come to: the task of the latest accepted load, by its kind; none at first, and after a drop.
 pub data History : Type 0 where

@@ -2,12 +2,14 @@ use Rattle.std.specs.Prelude.{◌≡◌, ℕ, false, Some, None, Option}
 use Rattle.machine.specs.Meaning.{Meaning}
 use Rattle.planner.specs.Calls.{Task, at_work, doing}
 use Rattle.planner.specs.Holds.{Holds}
-use Rattle.planner.specs.declared.planning.Planner.{Planner}
-use Rattle.console.specs.declared.planners.Console.{Console}
-use Rattle.console.specs.declared.planners.Kind.{Kind}
-use Rattle.console.specs.declared.planners.Kind.TheVariants as kind
+use Rattle.planner.specs.declared.planner.Planner.{Planner}
+use Rattle.console.specs.declared.console.Console.{Console}
+use Rattle.trays.specs.declared.kind.Kind.{Kind}
+use Rattle.trays.specs.declared.kind.Kind.TheVariants as kind
 use Rattle.console.specs.Histories.{History, none, plain_task, sided_task, ring_task}
-use Rattle.console.specs.Kinds.{plain, sided, ring, plain_estimate, sided_estimate, ring_estimate}
+use Rattle.gaps.specs.Kinds.{plain_estimate, sided_estimate, ring_estimate}
+use Rattle.ring.specs.Ring.{ring}
+use Rattle.towers.specs.Kinds.{plain, sided}
 
 -- A planner holds some task that is not at work, or none.
 abbrev pub Rests : {S E : Type 0} → Meaning S → (S → ℕ) → Planner S E → Type 0

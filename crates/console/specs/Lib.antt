@@ -1,7 +1,7 @@
+pub mod Called
+pub mod Calls
 pub mod Commanded
-pub mod Asks
 pub mod Histories
 pub mod Holds
-pub mod Kinds
 pub mod Loads
 pub mod Tapes

@@ -1,4 +1,4 @@
-use Rattle.std.specs.Prelude.{◌≡◌, ℕ, zero, suc, ◌+◌, ◌<◌, ◌≤◌, if◌then◌else◌, nat_lt, List, [], ◌++◌, length, drop, slice_index, Some, None, Option, Ok, Err, Result}
+use Rattle.std.specs.Prelude.{◌≡◌, ℕ, zero, suc, ◌+◌, ◌<◌, ◌≤◌, if◌then◌else◌, nat_lt, List, [], ◌++◌, length, take, drop, Some, None, Option, Ok, Err, Result}
 use Rattle.planner.specs.declared.answer.Answer.{Answer}
 use Rattle.tape.specs.Commands.{Reads, width}
 use Rattle.tape.specs.Places.{refused_for}
@@ -6,20 +6,20 @@ use Rattle.tape.specs.Replies.{refusal_bytes, reply_bytes}
 use Rattle.tape.specs.declared.command.Command.{Command}
 use Rattle.tape.specs.declared.fault.Fault.{Fault}
 use Rattle.tape.specs.declared.fault.Fault.TheVariants.{TapeLength, Place, ReplyRoom}
-use Rattle.tape.specs.declared.fault.Refusal.{Refusal}
+use Rattle.tape.specs.declared.refusal.Refusal.{Refusal}
+use Rattle.tape.specs.declared.reply.TheConstants.{LONGEST_REPLY}
 use Rattle.tape.specs.declared.placed.Placed.{Placed}
-use Rattle.console.specs.declared.planners.Console.{Console}
-use Rattle.console.specs.declared.running.Ran.{Ran}
+use Rattle.console.specs.declared.console.TheConstants.{LONGEST_TAPE}
+use Rattle.console.specs.declared.ran.Ran.{Ran}
 use Rattle.console.specs.Commanded.{Answered}
 use Rattle.console.specs.Histories.{History, none}
-use Rattle.console.specs.Holds.{Stands}
 
 -- Why a call of the console is refused as a whole, by the tape, the place and the room for the reply.
 abbrev pub call_fault : List ℕ → ℕ → ℕ → Option Fault
 call_fault tape place room =
-    if nat_lt 4096 (length tape) then Some TapeLength
+    if nat_lt LONGEST_TAPE (length tape) then Some TapeLength
     else (if nat_lt (length tape) place then Some Place
-    else (if nat_lt room 66 then Some ReplyRoom else None))
+    else (if nat_lt room LONGEST_REPLY then Some ReplyRoom else None))
 
 -- The reply to a command, with the place of the byte at fault.
 abbrev pub placed_reply : Placed → Result Answer Fault → Result Answer Refusal
@@ -61,20 +61,6 @@ pub record Runs (tape : List ℕ) (place : ℕ) (h : History) (old : List ℕ) (
   pub count_is : ran.count ≡ length bytes
   pub written : new ≡ bytes ++ drop (length bytes) old
 
--- A console c runs what stands at the place, for every history, and is c' after it. A reply that begins with E and the tape's end leave it as it was.
-pub record RunsAt (tape : List ℕ) (place : ℕ) (c : Console) (old : List ℕ) (ran : Ran) (c' : Console) (new : List ℕ) : Type 0 where
-  pub runs : (h : History) → Stands h c → (after : History) × Runs tape place h old ran new after × Stands after c'
-  pub told : slice_index new 0 ≡ 0x45 → c' ≡ c
-  pub idle : ran.count ≡ 0 → c' ≡ c
-  pub further : place < length tape → place < ran.next
-  pub on_tape : ran.next ≤ length tape
-  pub few : ran.count ≤ 66
-
--- What one call of a console answers and leaves: it is refused as a whole and changes nothing, or else it runs what stands at the place.
-abbrev pub Called : List ℕ → ℕ → Console → List ℕ → Result Ran Refusal → Console → List ℕ → Type 0
-Called tape place c old (Ok ran) c' new = (call_fault tape place (length old) ≡ None) × RunsAt tape place c old ran c' new
-Called tape place c old (Err r) c' new = Whole tape place (length old) r × (c' ≡ c) × (new ≡ old)
-
 -- One command further than a place, a history and replies for which `Before` holds.
 pub record Further (tape : List ℕ) (Before : ℕ → History → List ℕ → Type 0) (next : ℕ) (after : History) (replies : List ℕ) : Type 0 where
   pub place : ℕ
@@ -91,14 +77,18 @@ abbrev pub After : List ℕ → ℕ → ℕ → History → List ℕ → Type 0
 After tape zero place h replies = (place ≡ 0) × (h ≡ none) × (replies ≡ [])
 After tape (suc n) place h replies = Further tape (After tape n) place h replies
 
+-- A room that held old bytes, once these are written into it from its beginning, as far as it goes: those past them stay.
+abbrev pub written : List ℕ → List ℕ → List ℕ
+written old bytes = take (length old) bytes ++ drop (length bytes) old
+
 -- All replies to a tape, by a new console: its refusal where it is too long, else the replies to its commands, from its beginning to its end.
 pub record AllReplies (tape replies : List ℕ) : Type 0 where
-  pub too_long : 4096 < length tape → replies ≡ refusal_bytes (record { fault = TapeLength; place = 0 })
-  pub to_end : length tape ≤ 4096 → (n : ℕ) × (h : History) × After tape n (length tape) h replies
+  pub too_long : LONGEST_TAPE < length tape → replies ≡ refusal_bytes (record { fault = TapeLength; place = 0 })
+  pub to_end : length tape ≤ LONGEST_TAPE → (n : ℕ) × (h : History) × After tape n (length tape) h replies
 
 -- A tape that is too long is answered the same, whatever follows.
 abbrev pub LongAlike : Type 0
-LongAlike = (tape more replies : List ℕ) → 4096 < length tape → AllReplies tape replies → AllReplies (tape ++ more) replies
+LongAlike = (tape more replies : List ℕ) → LONGEST_TAPE < length tape → AllReplies tape replies → AllReplies (tape ++ more) replies
 
 -- The rules leave no more than one row of replies to a tape.
 abbrev pub OneReply : Type 0

@@ -1,12 +1,12 @@
+//! The console of a head: a planner of each kind of machine behind the tape. It runs the command at a place, or a whole tape, and asks for no memory.
+
 #![tactic(auto)]
 
-mod answering;
-mod asking;
-mod loading;
-mod planners;
-mod replying;
-mod running;
+mod console;
+mod load;
+mod ran;
+mod replies;
 
-pub use planners::Console;
-pub use replying::replies;
-pub use running::{LONGEST_TAPE, Ran};
+pub use console::{Console, GO_GRANT, LONGEST_TAPE};
+pub use ran::Ran;
+pub use replies::{LONGEST_REPLIES, write_replies};

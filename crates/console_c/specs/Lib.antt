@@ -1,3 +1,3 @@
 pub mod Ends
-pub mod Ownership
+pub mod Memory
 pub mod Statuses

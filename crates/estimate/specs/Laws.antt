@@ -4,6 +4,7 @@ use Rattle.std.proofs.lemmas.List.{length-reverse}
 use Rattle.std.specs.List.{fold, range_with_len, reduce}
 use Rattle.machine.specs.Meaning.{Meaning, Brings}
 use Rattle.machine.specs.Duals.{Duals}
+use Rattle.estimate.specs.declared.estimate.TheConstants.{HIGHEST_ESTIMATE}
 use Rattle.estimate.specs.Meaning.{Admissible, Consistent, IsEstimate}
 use Rattle.estimate.specs.Layers.{after_each, ahead, look_ahead, dual_lookup}
 
@@ -15,10 +16,10 @@ consistent_admissible m e law s (k ∷ ks) b = let one = law.turn s k b.0 in let
 module _ {S : Type 0} (m : Meaning S) (mirror : S → S) (duals : Duals m mirror) (e : S → ℕ) (below : IsEstimate m e) where
   pub dual_lookup_sound : IsEstimate m (dual_lookup mirror e)
   dual_lookup_sound = record {
-    to_250 = λ s. let a = below.to_250 s in let b = below.to_250 (mirror s) in omega arith;
+    to_highest = λ s. let a = below.to_highest s in let b = below.to_highest (mirror s) in omega arith;
     admissible = λ s ks b.
         let here = below.admissible s ks b in
-        let there = below.admissible (mirror s) (reverse ks) (((duals s).backwards ks).0 b) in
+        let there = below.admissible (mirror s) (reverse ks) ((duals s ks).0 b) in
         let long = length-reverse ks in
         omega arith;
   }
@@ -39,9 +40,9 @@ least_at f x a (suc n) k low high =
     omega arith)
     (cases_lt a k)
 
-ahead_to_250 : (here : ℕ) (after : Option ℕ) → here ≤ 250 → ahead here after ≤ 250
-ahead_to_250 here None le = le
-ahead_to_250 here (Some least) le = omega arith
+ahead_to_highest : (here : ℕ) (after : Option ℕ) → here ≤ HIGHEST_ESTIMATE → ahead here after ≤ HIGHEST_ESTIMATE
+ahead_to_highest here None le = le
+ahead_to_highest here (Some least) le = omega arith
 
 -- the number one turn ahead is at most the number here or 1 more than that after turn k
 ahead_at : (here : ℕ) (f : ℕ → ℕ) (a n k : ℕ) → a ≤ k → k < a + n → ahead here (reduce min (map f (range_with_len a n))) ≤ max here (1 + f k)
@@ -69,9 +70,9 @@ module _ {S : Type 0} (m : Meaning S) (e : S → ℕ) (below : IsEstimate m e) w
 
   pub look_ahead_sound : IsEstimate m (look_ahead m e)
   look_ahead_sound = record {
-    to_250 = λ s. elim (m.home s) as (λ b. (if b then 0 else ahead (e s) (reduce min (after_each m e s))) ≤ 250) [
+    to_highest = λ s. elim (m.home s) as (λ b. (if b then 0 else ahead (e s) (reduce min (after_each m e s))) ≤ HIGHEST_ESTIMATE) [
       | true ↦ omega arith
-      | false ↦ ahead_to_250 (e s) (reduce min (after_each m e s)) (below.to_250 s)
+      | false ↦ ahead_to_highest (e s) (reduce min (after_each m e s)) (below.to_highest s)
     ];
     admissible = λ s ks b. elim (m.home s) as (λ t. m.home s ≡ t → (if t then 0 else ahead (e s) (reduce min (after_each m e s))) ≤ length ks) [
       | true ↦ (λ is. omega arith)

@@ -2,6 +2,7 @@ use Rattle.std.specs.Prelude.{ℕ, ◌+◌, min, max, if◌then◌else◌, List,
 use Rattle.std.specs.List.{reduce}
 use Rattle.machine.specs.Meaning.{Meaning}
 use Rattle.machine.specs.Turns.{turns}
+use Rattle.estimate.specs.declared.estimate.TheConstants.{HIGHEST_ESTIMATE}
 
 -- The numbers that e has after one turn, by the turns in rising order.
 abbrev pub after_each : {S : Type 0} → Meaning S → (S → ℕ) → S → List ℕ
@@ -11,10 +12,10 @@ after_each m e s = map (λ k. e (m.after s k)) (turns m s)
 abbrev pub least_after : {S : Type 0} → Meaning S → (S → ℕ) → S → Option ℕ
 least_after m e s = reduce min (after_each m e s)
 
--- The greater of the number here and 1 plus the least after one turn, but at most 250; where there is no turn, the number here.
+-- The greater of the number here and 1 plus the least after one turn, but at most HIGHEST_ESTIMATE; where there is no turn, the number here.
 abbrev pub ahead : ℕ → Option ℕ → ℕ
 ahead here None = here
-ahead here (Some least) = min (max here (1 + least)) 250
+ahead here (Some least) = min (max here (1 + least)) HIGHEST_ESTIMATE
 
 -- Look-ahead over the estimate e: 0 at home.
 abbrev pub look_ahead : {S : Type 0} → Meaning S → (S → ℕ) → S → ℕ

@@ -1,13 +1,14 @@
 use Rattle.std.specs.Prelude.{◌≡◌, ℕ, ◌+◌, ◌≤◌, true, List, length}
 use Rattle.machine.specs.Meaning.{Meaning, InRange, Brings}
+use Rattle.estimate.specs.declared.estimate.TheConstants.{HIGHEST_ESTIMATE}
 
 -- The number is at most the length of every list of turns that brings the state home.
 abbrev pub Admissible : {S : Type 0} → Meaning S → (S → ℕ) → Type 0
 Admissible {S} m e = (s : S) (ks : List ℕ) → Brings m ks s → e s ≤ length ks
 
--- What every estimate owes: a number from 0 to 250 for each state, which is admissible.
+-- What every estimate owes: a number of at most HIGHEST_ESTIMATE for each state, which is admissible.
 pub record IsEstimate {S : Type 0} (m : Meaning S) (e : S → ℕ) : Type 0 where
-  pub to_250 : (s : S) → e s ≤ 250
+  pub to_highest : (s : S) → e s ≤ HIGHEST_ESTIMATE
   pub admissible : Admissible m e
 
 -- Home has 0, and a turn lowers the number by at most `step`.

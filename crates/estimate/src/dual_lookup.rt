@@ -1,13 +1,14 @@
 ghost use Rattle.estimate.specs.Layers.{dual_lookup};
 ghost use Rattle.estimate.specs.Laws.{dual_lookup_sound};
 
-use crate::interface::Estimate;
-use crate::successors::SuccessorEstimate;
+use crate::estimate::Estimate;
+use crate::successor_estimate::SuccessorEstimate;
 use machine::Dual;
 
-// The greater of the estimate below on the machine and on its dual.
+/// The greater of the estimate below on the machine and on its dual.
 #[derive(Clone, Copy)]
 pub struct DualLookup<E> {
+    /// The estimate below.
     pub below: E,
 }
 

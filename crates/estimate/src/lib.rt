@@ -1,11 +1,13 @@
+//! Estimates of how many turns a machine still needs: what one owes, and two that are built over another, look-ahead and dual lookup.
+
 #![tactic(auto)]
 
 mod dual_lookup;
-mod interface;
+mod estimate;
 mod look_ahead;
-mod successors;
+mod successor_estimate;
 
 pub use dual_lookup::DualLookup;
-pub use interface::Estimate;
+pub use estimate::{Estimate, HIGHEST_ESTIMATE};
 pub use look_ahead::LookAhead;
-pub use successors::SuccessorEstimate;
+pub use successor_estimate::SuccessorEstimate;

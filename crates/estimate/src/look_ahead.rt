@@ -1,13 +1,14 @@
 ghost use Rattle.estimate.specs.Layers.{look_ahead};
 ghost use Rattle.estimate.specs.Laws.{look_ahead_sound};
 
-use crate::interface::Estimate;
-use crate::successors::SuccessorEstimate;
+use crate::estimate::{Estimate, HIGHEST_ESTIMATE};
+use crate::successor_estimate::SuccessorEstimate;
 use machine::Machine;
 
-// Looks one turn ahead of the estimate below. 0 at home; elsewhere the greater of the estimate here and 1 plus the least after one turn, but at most 250; where there are no turns, the estimate here.
+/// Looks one turn ahead of the estimate below. 0 at home; elsewhere the greater of the estimate here and 1 plus the least after one turn, but at most `HIGHEST_ESTIMATE`; where there are no turns, the estimate here.
 #[derive(Clone, Copy)]
 pub struct LookAhead<E> {
+    /// The estimate below.
     pub below: E,
 }
 
@@ -22,7 +23,7 @@ impl<M: Machine + Copy, E: SuccessorEstimate<M>> Estimate<M> for LookAhead<E> {
         }
         let here = self.below.ask(machine);
         match self.below.least_after(machine) {
-            Some(least) => here.max(least.saturating_add(1)).min(250),
+            Some(least) => here.max(least.saturating_add(1)).min(HIGHEST_ESTIMATE),
             None => here,
         }
     }

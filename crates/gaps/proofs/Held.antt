@@ -1,5 +1,5 @@
 use Rattle.std.proofs.Common.{◌≡◌, ◌+◌, List, length, take, ap, ◌∙◌}
-use Rattle.ring.specs.declared.kind.TrayRing.{TrayRing}
+use Rattle.ring.specs.declared.tray_ring.TrayRing.{TrayRing}
 use Rattle.towers.specs.declared.tower.Tower.{Tower}
 use Rattle.trays.specs.declared.tray.Tray.{Ghosts}
 use Rattle.trays.proofs.Held.{held_long}

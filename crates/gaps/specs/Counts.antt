@@ -2,9 +2,9 @@ use Rattle.std.specs.Prelude.{ℕ, ◌+◌, ◌-◌, ◌/◌, Bool, not, ◌||�
 use Rattle.std.specs.Int.{abs_diff}
 use Rattle.std.specs.List.{zip}
 use Rattle.std.specs.Ordering.{int_eq}
-use Rattle.ring.specs.declared.kind.TrayRing.{TrayRing}
+use Rattle.ring.specs.declared.tray_ring.TrayRing.{TrayRing}
 use Rattle.towers.specs.declared.tower.Tower.{Tower}
-use Rattle.towers.specs.declared.tray.SidedTray.{SidedTray}
+use Rattle.towers.specs.declared.sided_tray.SidedTray.{SidedTray}
 use Rattle.trays.specs.declared.tray.Tray.{Ghosts}
 
 -- How many of the trays are apart from the next one, where `end` comes after the last.

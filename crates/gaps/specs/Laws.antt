@@ -16,14 +16,14 @@ use Rattle.trays.specs.declared.tray.Tray.{Ghosts}
 use Rattle.trays.proofs.Held.{held_long}
 use Rattle.trays.specs.Apart.{Apart}
 use Rattle.trays.proofs.Neighbours.{apart_at, on_plate, plate_home, plate_turned, apart_round, ring_turned}
-use Rattle.trays.proofs.Permuting.{first_in_order}
-use Rattle.trays.proofs.Running.{on_far, on_near, on_within, run_reversed}
+use Rattle.trays.proofs.Permutations.{first_in_order}
+use Rattle.trays.proofs.Runs.{on_far, on_near, on_within, run_reversed}
 use Rattle.trays.proofs.Tally.{tally, tally_first, tally_le, tally_none, tally_same, tally_zero}
-use Rattle.ring.specs.declared.kind.TrayRing.{TrayRing}
+use Rattle.ring.specs.declared.tray_ring.TrayRing.{TrayRing}
 use Rattle.ring.specs.Ring as rings
 use Rattle.ring.specs.Ring.{ring, start, start_within}
 use Rattle.towers.specs.declared.tower.Tower.{Tower}
-use Rattle.towers.specs.declared.tray.SidedTray.{SidedTray}
+use Rattle.towers.specs.declared.sided_tray.SidedTray.{SidedTray}
 use Rattle.towers.specs.Towers.{permuted, tower, turn_moves}
 use Rattle.towers.specs.Tray.{sided_tray}
 use Rattle.gaps.specs.Counts.{apart_count, tower_count, gap, gaps, signed, breakpoint, breakpoints, ring_gap, ring_gaps, half_gaps}
@@ -88,7 +88,7 @@ module _ {A : Type 0} {b : Ghosts A} (apart : A → A → Bool) where
 
     pub tower_sound : IsEstimate (tower {b = b} low) (tower_count apart)
     tower_sound = record {
-      to_250 = λ s. let most = s.arrangement.most in let count = tower_count-tally s in let few = tally_le s.arrangement.n (apart_at apart (on_plate b.form s.arrangement.n s.arrangement.trays)) in omega arith;
+      to_highest = λ s. let most = s.arrangement.most in let count = tower_count-tally s in let few = tally_le s.arrangement.n (apart_at apart (on_plate b.form s.arrangement.n s.arrangement.trays)) in omega arith;
       admissible = consistent_admissible (tower low) (tower_count apart) tower_consistent;
     }
 
@@ -207,7 +207,7 @@ half_consistent = record {
 
 pub half_sound : IsEstimate ring half_gaps
 half_sound = record {
-  to_250 = λ s.
+  to_highest = λ s.
       let n = s.arrangement.n in
       let most = s.arrangement.most in
       let count = ring_gaps-tally s in

@@ -1,2 +1,3 @@
 pub mod Counts
+pub mod Kinds
 pub mod Laws

@@ -4,15 +4,16 @@ ghost use Rattle.gaps.specs.Counts.{half_gaps, ring_gap, ring_gaps};
 ghost use Rattle.gaps.specs.Laws.{half_sound};
 ghost use Rattle.estimate.specs.Layers.{least_after};
 ghost use Rattle.ring.specs.Ring.{ring as ring_machine, turned};
-ghost use Rattle.ring.specs.declared.kind.TrayRing.{TrayRing};
+ghost use Rattle.ring.specs.declared.tray_ring.TrayRing.{TrayRing};
+ghost use Rattle.trays.specs.declared.arrangement.TheConstants.{MOST_TRAYS};
 ghost use Rattle.trays.specs.Run.{place_on};
 
-use crate::counting::{count_apart, lesser};
+use crate::count::{count_apart, lesser};
 use estimate::{Estimate, SuccessorEstimate};
 use ring::TrayRing;
-use trays::Settable;
+use trays::{Settable, place_on};
 
-// How many trays of a ring differ neither by 1 nor by n - 1 from the next one round.
+/// How many trays of a ring differ neither by 1 nor by n - 1 from the next one round.
 #[tactic(auto, using(crate::proofs::Held::ring_long, crate::specs::Laws::ring_consistent))]
 pub fn count_ring_gaps(ring: &TrayRing) -> u8
     ensures consistent { Consistent ⟦<TrayRing as machine::Machine>⟧.meaning 2 ring_gaps }
@@ -31,7 +32,7 @@ fn is_ring_gap(n: u8, tray: u8, next: u8) -> bool
     difference != 1 && difference != n.saturating_sub(1)
 }
 
-// Half the gaps of a ring, rounded up: a turn lowers the gaps by at most 2.
+/// Half the gaps of a ring, rounded up: a turn lowers the gaps by at most 2.
 #[derive(Clone, Copy)]
 pub struct HalfGaps;
 
@@ -59,34 +60,32 @@ fn least_on_ring(ring: &TrayRing) -> Option<u8>
     let here = count_ring_gaps(ring);
     let trays = ring.trays();
     let mut least = None;
-    for p in 1..=trays.len() as u8 {
-        least = lesser(least, gaps_after(trays, ring.span(), here, p).div_ceil(2));
+    for from in 0..trays.len() as u8 {
+        let after = gaps_after(trays, ring.span(), here, from);
+        least = lesser(least, after.div_ceil(2));
     }
     least
 }
 
-// The gaps after turn p, where there are `here` now. The last tray of the run is then beside the one before the run, and the first beside the one after the run; a run of the whole ring keeps all neighbours.
-fn gaps_after(trays: &[u8], span: u8, here: u8, p: u8) -> u8
-    requires few { length trays.now ≤ 32 }
-    requires low { 1 ≤ p }
-    requires high { p ≤ length trays.now }
+// The gaps after the turn whose run begins at place `from`, counted from 0, where there are `here` now. The last tray of the run is then beside the one before the run, and the first beside the one after the run; a run of the whole ring keeps all neighbours.
+fn gaps_after(trays: &[u8], span: u8, here: u8, from: u8) -> u8
+    requires few { length trays.now ≤ MOST_TRAYS }
+    requires from { from < length trays.now }
     requires some { 1 ≤ span }
     requires fits { span ≤ length trays.now }
     ensures { (ring : TrayRing) → trays.now ≡ take ring.arrangement.n ring.arrangement.trays → span ≡ ring.span →
-        here ≡ ring_gaps ring → result ≡ ring_gaps (turned ring p) }
+        here ≡ ring_gaps ring → result ≡ ring_gaps (turned ring (from + 1)) }
 {
-    let n = trays.len();
-    let span = span as usize;
+    let n = trays.len() as u8;
     if span == n {
         return here;
     }
-    let from = p as usize - 1;
-    let first = trays[from];
+    let first = trays[from as usize];
     let last = tray_on(trays, from, span - 1);
     let next = tray_on(trays, from, span);
     let before = tray_on(trays, from, n - 1);
-    let joined = gaps_between(n as u8, first, next, before, last);
-    let parted = gaps_between(n as u8, last, next, before, first);
+    let joined = gaps_between(n, first, next, before, last);
+    let parted = gaps_between(n, last, next, before, first);
     here.saturating_add(joined).saturating_sub(parted)
 }
 
@@ -98,13 +97,11 @@ fn gaps_between(n: u8, tray: u8, next: u8, before: u8, after: u8) -> u8
 }
 
 // The tray that stands j steps on from a place, counted round.
-fn tray_on(trays: &[u8], from: usize, j: usize) -> u8
-    requires few { length trays.now ≤ 32 }
+fn tray_on(trays: &[u8], from: u8, j: u8) -> u8
+    requires few { length trays.now ≤ MOST_TRAYS }
     requires from { from < length trays.now }
     requires steps { j < length trays.now }
     ensures { result ≡ slice_index trays.now (place_on (length trays.now) from j) }
 {
-    let place = from + j;
-    let n = trays.len();
-    trays[if place < n { place } else { place - n }]
+    trays[place_on(trays.len() as u8, from, j)]
 }

@@ -1,2 +1,2 @@
-pub mod Relabelling
+pub mod Relabelled
 pub mod Ways

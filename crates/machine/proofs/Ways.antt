@@ -2,35 +2,35 @@ use Rattle.std.proofs.Common.{◌≡◌, ℕ, true, List, [], ◌∷◌, ◌++�
 use Rattle.std.proofs.lemmas.Bool.{true≢false}
 use Rattle.machine.specs.declared.fault.Fault.{Fault}
 use Rattle.machine.specs.declared.fault.Fault.TheVariants.{NoSuchTurn}
-use Rattle.machine.specs.declared.trace.Ending.{Ending}
-use Rattle.machine.specs.declared.trace.Ending.TheVariants.{Home, NotHome, Refused}
+use Rattle.machine.specs.declared.ending.Ending.{Ending}
+use Rattle.machine.specs.declared.ending.Ending.TheVariants.{Home, NotHome, Refused}
 use Rattle.machine.specs.Meaning.{Meaning, InRange, Brings}
-use Rattle.machine.specs.Follows.{Told, Through, Follows}
+use Rattle.machine.specs.Follows.{EndsAs, Through, Follows}
 
 module _ {S : Type 0} (m : Meaning S) where
   -- Any way on from s by `rest`, put after these states, is a way from the start by ks.
   abbrev pub Resumes : S → List ℕ → List S → S → List ℕ → Type 0
   Resumes start ks states s rest = (ts : List S) (end : Ending) → Through m s rest ts end → Through m start ks (states ++ ts) end
 
-  told_home : (s : S) (end : Ending) → Told m s end → m.home s ≡ true → end ≡ Home
-  told_home s Home h e = refl
-  told_home s NotHome h e = absurd (true≢false (sym e ∙ h))
-  told_home s (Refused f) h e = absurd h
+  ends_as_home : (s : S) (end : Ending) → EndsAs m s end → m.home s ≡ true → end ≡ Home
+  ends_as_home s Home h e = refl
+  ends_as_home s NotHome h e = absurd (true≢false (sym e ∙ h))
+  ends_as_home s (Refused f) h e = absurd h
 
   through_brings : (s : S) (ks : List ℕ) (states : List S) (end : Ending) → Through m s ks states end → end ≡ Home → Brings m ks s
-  through_brings s [] [] end h e = subst (Told m s) e h
+  through_brings s [] [] end h e = subst (EndsAs m s) e h
   through_brings s [] (t ∷ ts) end h e = absurd h
   through_brings s (k ∷ ks) [] end h e = let q = h.1 in let z : ◌≡◌ {A = ℕ} 0 1 = cc in absurd (omega arith)
   through_brings s (k ∷ ks) (t ∷ ts) end h e = (h.0, subst (Brings m ks) h.1 (through_brings t ks ts end h.2 e))
 
-  through_told : (s : S) (ks : List ℕ) (states : List S) (end : Ending) → Through m s ks states end → Brings m ks s → end ≡ Home
-  through_told s [] [] end h b = told_home s end h b
-  through_told s [] (t ∷ ts) end h b = absurd h
-  through_told s (k ∷ ks) [] end h b = absurd (h.0 b.0)
-  through_told s (k ∷ ks) (t ∷ ts) end h b = through_told t ks ts end h.2 (subst (Brings m ks) (sym h.1) b.1)
+  through_ends_home : (s : S) (ks : List ℕ) (states : List S) (end : Ending) → Through m s ks states end → Brings m ks s → end ≡ Home
+  through_ends_home s [] [] end h b = ends_as_home s end h b
+  through_ends_home s [] (t ∷ ts) end h b = absurd h
+  through_ends_home s (k ∷ ks) [] end h b = absurd (h.0 b.0)
+  through_ends_home s (k ∷ ks) (t ∷ ts) end h b = through_ends_home t ks ts end h.2 (subst (Brings m ks) (sym h.1) b.1)
 
   pub follows : (s : S) (ks : List ℕ) (states : List S) (end : Ending) → Through m s ks states end → Follows m s ks states end
-  follows s ks states end h = record { through = h; brings = through_brings s ks states end h; told = through_told s ks states end h }
+  follows s ks states end h = record { through = h; brings = through_brings s ks states end h; ends_home = through_ends_home s ks states end h }
 
   -- the way ends here
   resumes_end : (start : S) (ks : List ℕ) (states : List S) (s : S) (rest : List ℕ) (end : Ending) → Resumes start ks states s rest → Through m s rest [] end → Follows m start ks states end
@@ -40,5 +40,5 @@ module _ {S : Type 0} (m : Meaning S) where
   resumes_refused start ks states s rest k more f h e is_f out =
       resumes_end start ks states s rest (Refused f) h (subst (λ (l : List ℕ). Through m s l [] (Refused f)) (sym e) (out, ap Refused is_f))
 
-  pub resumes_told : (start : S) (ks : List ℕ) (states : List S) (s : S) (rest : List ℕ) (end : Ending) → Resumes start ks states s rest → rest ≡ [] → Told m s end → Follows m start ks states end
-  resumes_told start ks states s rest end h e told = resumes_end start ks states s rest end h (subst (λ (l : List ℕ). Through m s l [] end) (sym e) told)
+  pub resumes_ended : (start : S) (ks : List ℕ) (states : List S) (s : S) (rest : List ℕ) (end : Ending) → Resumes start ks states s rest → rest ≡ [] → EndsAs m s end → Follows m start ks states end
+  resumes_ended start ks states s rest end h e ends = resumes_end start ks states s rest end h (subst (λ (l : List ℕ). Through m s l [] end) (sym e) ends)

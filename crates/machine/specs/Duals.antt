@@ -8,9 +8,8 @@ Backwards m s t = (ks : List ℕ) → (Brings m ks s → Brings m (reverse ks) t
 -- What the dual t of the state s owes.
 pub record IsDual {S : Type 0} (m : Meaning S) (mirror : S → S) (s t : S) : Type 0 where
   pub mirrored : t ≡ mirror s
-  pub again : mirror t ≡ s
   pub backwards : Backwards m s t
 
--- Every state has its dual.
+-- The same for every state and its mirror.
 abbrev pub Duals : {S : Type 0} → Meaning S → (S → S) → Type 0
-Duals {S} m mirror = (s : S) → IsDual m mirror s (mirror s)
+Duals {S} m mirror = (s : S) → Backwards m s (mirror s)

@@ -1,6 +1,6 @@
 pub mod Duals
 pub mod Meaning
-pub mod Refusal
+pub mod FaultEntry
 pub mod Turned
 pub mod Turns
 pub mod Follows

@@ -1,4 +1,5 @@
 use Rattle.std.specs.Prelude.{◌≡◌, ℕ, ◌≤◌, Bool, true, List, [], ◌∷◌}
+use Rattle.machine.specs.declared.turn_range.TheConstants.{HIGHEST_TURN}
 
 -- What a machine means: the lowest and the highest turn number, the state that a turn leads to, and whether a state is home.
 -- A lowest number above the highest means that there are no turns.
@@ -16,7 +17,7 @@ pub record InRange {S : Type 0} (m : Meaning S) (s : S) (k : ℕ) : Type 0 where
 -- What every machine owes.
 pub record Lawful {S : Type 0} (m : Meaning S) : Type 0 where
   pub from_one : (s : S) → 1 ≤ m.lowest s
-  pub to_250 : (s : S) → m.highest s ≤ 250
+  pub to_highest : (s : S) → m.highest s ≤ HIGHEST_TURN
   pub twice : (s : S) (k : ℕ) → InRange m s k → m.after (m.after s k) k ≡ s
   pub same_lowest : (s : S) (k : ℕ) → InRange m s k → m.lowest (m.after s k) ≡ m.lowest s
   pub same_highest : (s : S) (k : ℕ) → InRange m s k → m.highest (m.after s k) ≡ m.highest s

@@ -1,5 +1,6 @@
-pub mod Coming
-pub mod Holding
-pub mod Looking
+pub mod LookCases
+pub mod HeldTask
+pub mod LookMade
 pub mod Replies
 pub mod Runs
+pub mod Since

@@ -1,12 +1,14 @@
-use Rattle.std.specs.Prelude.{ℕ, Bool, true, false, ◌+◌, ◌||◌, if◌then◌else◌, nat_lt, ◌==◌, Some, None, Option}
+use Rattle.std.specs.Prelude.{ℕ, Bool, true, false, ◌+◌, ◌||◌, if◌then◌else◌, nat_lt, ◌==◌, List, [], ◌∷◌, Some, None, Option}
 use Rattle.machine.specs.Meaning.{Meaning}
 use Rattle.search.specs.Search.{Search, search}
+use Rattle.search.specs.declared.limit.TheConstants.{HIGHEST_LIMIT}
 use Rattle.planner.specs.declared.call.Call.{Call}
 use Rattle.planner.specs.declared.call.Call.TheVariants.{Load, Work, Fetch, Drop}
 use Rattle.planner.specs.declared.fault.Fault.{Fault}
 use Rattle.planner.specs.declared.fault.Fault.TheVariants as fault
 use Rattle.planner.specs.declared.phase.Phase.{Phase}
 use Rattle.planner.specs.declared.phase.Phase.TheVariants as phase
+use Rattle.planner.specs.declared.planner.TheConstants.{HIGHEST_GRANT, HIGHEST_GRANT_SUM}
 
 -- Which calls are accepted, and what a planner is doing, by the calls alone.
 
@@ -22,18 +24,18 @@ abbrev pub at_work : Phase → Bool
 at_work phase.AtWork = true
 at_work doing = false
 
--- The first refusal that applies to a call, by what the planner is doing and the grants since the load.
-abbrev pub refusal : {S : Type 0} → Phase → ℕ → Call S → Option Fault
-refusal phase.AtWork granted (Load s limit) = if nat_lt 64 limit then Some fault.Limit else Some fault.AtWork
-refusal doing granted (Load s limit) = if nat_lt 64 limit then Some fault.Limit else None
-refusal phase.AtWork granted (Work grant) =
-    if (grant == 0) || nat_lt 1000000 grant then Some fault.Grant
-    else (if nat_lt 2000000000 (granted + grant) then Some fault.GrantSum else None)
-refusal doing granted (Work grant) = Some fault.NoTask
-refusal phase.Found granted Fetch = None
-refusal doing granted Fetch = Some fault.NotFound
-refusal phase.AtWork granted Drop = None
-refusal doing granted Drop = Some fault.NothingToDrop
+-- The first fault that applies to a call, by what the planner is doing and the grants since the load.
+abbrev pub first_fault : {S : Type 0} → Phase → ℕ → Call S → Option Fault
+first_fault phase.AtWork granted (Load s limit) = if nat_lt HIGHEST_LIMIT limit then Some fault.Limit else Some fault.AtWork
+first_fault doing granted (Load s limit) = if nat_lt HIGHEST_LIMIT limit then Some fault.Limit else None
+first_fault phase.AtWork granted (Work grant) =
+    if (grant == 0) || nat_lt HIGHEST_GRANT grant then Some fault.Grant
+    else (if nat_lt HIGHEST_GRANT_SUM (granted + grant) then Some fault.GrantSum else None)
+first_fault doing granted (Work grant) = Some fault.NoTask
+first_fault phase.Found granted Fetch = None
+first_fault doing granted Fetch = Some fault.NotFound
+first_fault phase.AtWork granted Drop = None
+first_fault doing granted Drop = Some fault.NothingToDrop
 
 -- What the latest accepted load handed over, and the sum of the grants accepted since.
 pub record Task (S : Type 0) : Type 0 where
@@ -66,10 +68,15 @@ module _ {S : Type 0} (m : Meaning S) (e : S → ℕ) where
   granted_to None = 0
   granted_to (Some t) = t.granted
 
-  -- The first refusal that applies to a call, where the planner has this task.
+  -- The first fault that applies to a call, where the planner has this task.
   abbrev pub refused : Option (Task S) → Call S → Option Fault
-  refused task call = refusal (doing task) (granted_to task) call
+  refused task call = first_fault (doing task) (granted_to task) call
 
   -- The task after a call. A call that is refused leaves it.
   abbrev pub after : Option (Task S) → Call S → Option (Task S)
   after task call = elim (refused task call) [ None ↦ accept task call | Some f ↦ task ]
+
+  -- The task after these calls.
+  abbrev pub after_all : Option (Task S) → List (Call S) → Option (Task S)
+  after_all task [] = task
+  after_all task (c ∷ cs) = after_all (after task c) cs

@@ -1,9 +1,11 @@
 use Rattle.std.specs.Prelude.{◌≡◌, ℕ, ◌≤◌, min, List, drop, length, reverse, Some, None, Option, Result}
 use Rattle.machine.specs.Meaning.{Meaning}
 use Rattle.search.specs.Search.{plan, all_looks}
+use Rattle.search.specs.declared.limit.TheConstants.{HIGHEST_LIMIT}
 use Rattle.walk.specs.Walks.{made}
-use Rattle.planner.specs.Calls.{Task, search_of, doing, after}
-use Rattle.planner.specs.Promise.{Kept}
+use Rattle.planner.specs.Calls.{Task, search_of, doing, after, after_all}
+use Rattle.planner.specs.Promise.{Kept, Run}
+use Rattle.planner.specs.Since.{KeepsPromise}
 use Rattle.planner.specs.UnderWay.{UnderWay}
 use Rattle.planner.specs.declared.answer.Answer.{Answer}
 use Rattle.planner.specs.declared.answer.Answer.TheVariants as answer
@@ -11,7 +13,8 @@ use Rattle.planner.specs.declared.call.Call.{Call}
 use Rattle.planner.specs.declared.fault.Fault.{Fault}
 use Rattle.planner.specs.declared.phase.Phase.{Phase}
 use Rattle.planner.specs.declared.phase.Phase.TheVariants.{Empty, AtWork, Found, NoPlan}
-use Rattle.planner.specs.declared.planning.Planner.{Planner}
+use Rattle.planner.specs.declared.planner.Planner.{Planner}
+use Rattle.planner.specs.declared.played.Played.{Played}
 use Rattle.planner.specs.declared.progress.Progress.{Progress}
 
 -- What a grant is told, by what the planner is doing, the number of turns that it holds, and the looks made.
@@ -33,7 +36,7 @@ module _ {S M : Type 0} (m : Meaning S) (state : M → S) (e : S → ℕ) (limit
   pub record HasPlan (looks : ℕ) (p : Progress M) : Type 0 where
     pub all_made : looks ≡ length (all_looks m e limit s)
     pub plan_is : plan (all_looks m e limit s) ≡ Some (reverse (made p.walk))
-    pub within : length (made p.walk) ≤ 64
+    pub within : length (made p.walk) ≤ HIGHEST_LIMIT
 
   -- All looks are made, and there is no plan.
   pub record HasNone (looks : ℕ) : Type 0 where
@@ -62,6 +65,12 @@ module _ {S M E : Type 0} (m : Meaning S) (state : M → S) (e : S → ℕ) wher
   -- After a call that was replied so the planner holds what it should, and the reply and the sheet are as promised.
   abbrev pub Answers : Option (Task S) → Call S → List ℕ → Result Answer Fault → List ℕ → Planner M E → Type 0
   Answers task call old r new p = Holds (after m e task call) p × Kept m e task call old r new
+
+  -- After these calls, which were replied so, the planner holds what it should, and what was replied is as promised: call by call, and by the latest accepted load before each.
+  pub record Plays (task : Option (Task S)) (sheet : List ℕ) (calls : List (Call S)) (replies : List Played) (p : Planner M E) : Type 0 where
+    pub holds : Holds (after_all m e task calls) p
+    pub run : Run m e task sheet calls replies
+    pub promise : KeepsPromise m e task calls replies
 
 -- The estimate that it asks.
 abbrev pub estimate_of : {M E : Type 0} → Planner M E → E

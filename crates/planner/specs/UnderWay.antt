@@ -1,12 +1,13 @@
 use Rattle.std.specs.Prelude.{◌≡◌, ⊤, ℕ, ◌≤◌, List, [], ◌∷◌, length, reverse, Some, None, Option}
 use Rattle.machine.specs.Meaning.{Meaning}
 use Rattle.search.specs.Search.{Look, cut, home, continued, all_looks}
+use Rattle.search.specs.declared.limit.TheConstants.{HIGHEST_LIMIT}
 use Rattle.walk.specs.Walks.{made, tried, machine, Stands}
-use Rattle.walk.specs.declared.walking.Walk.{Walk}
+use Rattle.walk.specs.declared.walk.Walk.{Walk}
 use Rattle.planner.specs.ToCome.{to_come}
 use Rattle.planner.specs.declared.progress.Progress.{Progress}
-use Rattle.planner.specs.declared.progress.Seen.{Seen}
-use Rattle.planner.specs.declared.progress.Seen.TheVariants.{GoesOn, Home, Ended}
+use Rattle.planner.specs.declared.seen.Seen.{Seen}
+use Rattle.planner.specs.declared.seen.Seen.TheVariants.{GoesOn, Home, Ended}
 
 -- The state looked at was not home.
 abbrev pub NotHome : Look → Type 0
@@ -57,7 +58,7 @@ module _ {S M : Type 0} (m : Meaning S) (state : M → S) (e : S → ℕ) (limit
   -- The first of the looks xs is made, and was home: it is the last one.
   pub record CameHome (q : Progress M) (xs : List Look) : Type 0 where
     pub is : xs ≡ home (reverse (made q.walk)) ∷ []
-    pub within : length (made q.walk) ≤ 64
+    pub within : length (made q.walk) ≤ HIGHEST_LIMIT
 
   -- The first of the looks xs is made.
   abbrev pub Looked : Seen → Progress M → List Look → Type 0

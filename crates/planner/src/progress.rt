@@ -1,27 +1,17 @@
-ghost use Rattle.std.specs.Prelude.{◌≡◌, ℕ, ◌+◌, ◌≤◌, List, length, Some, None};
+ghost use Rattle.std.specs.Prelude.{◌≡◌, ℕ, ◌+◌, ◌≤◌, ⊤, List, length, Some, None};
 ghost use Rattle.planner.specs.ToCome.{to_come, with_cut};
 ghost use Rattle.search.specs.Search.{Look, all_looks};
+ghost use Rattle.search.specs.declared.limit.TheConstants.{HIGHEST_LIMIT};
 ghost use Rattle.walk.specs.Walks.{made, machine as machine_of, Went, Over};
 
+use crate::seen::Seen;
 use estimate::Estimate;
 use machine::Machine;
 use search::first_threshold;
-use std::alloc::{AllocError, Global};
-use walk::Walk;
-
-// What a look came to.
-#[derive(Clone, Copy, PartialEq, Eq, Debug)]
-pub(crate) enum Seen {
-    // the search goes on
-    GoesOn,
-    // the state is home, and the turns that led there are the plan
-    Home,
-    // the search has ended without a plan
-    Ended,
-}
+use std::alloc::AllocError;
+use walk::{Step, Walk};
 
 // A search between two looks.
-#[derive(Drop)]
 pub(crate) struct Progress<M> {
     pub(crate) walk: Walk<M>,
     pub(crate) limit: u8,
@@ -29,25 +19,38 @@ pub(crate) struct Progress<M> {
     pub(crate) threshold: Option<u8>,
     // the least total that was cut in this round
     pub(crate) least: Option<u16>,
-    ghost low_limit: { limit ≤ 64 },
+    ghost low_limit: { limit ≤ HIGHEST_LIMIT },
 }
+
+// By hand, since the prover refuses to derive `Clone` for a generic struct with ghost fields (derive-over-ghost-field).
+impl<M: Copy> Clone for Progress<M> {
+    ghost is_clone = { λ p copy. copy ≡ p };
+
+    ghost is_infallible = { λ _. ⊤ };
+
+    fn clone(&self) -> Result<Progress<M>, AllocError> {
+        Ok(*self)
+    }
+}
+
+impl<M: Copy> Copy for Progress<M> {}
 
 impl<M: Machine + Drop> Progress<M> {
     ghost use Rattle.planner.specs.UnderWay.{UnderWay, Looked, GoneOn};
 
     // No search: the machine is held until the first one begins.
-    pub(crate) fn new(heap: Global, machine: M) -> Result<Progress<M>, AllocError> {
-        Ok(Progress {
-            walk: Walk::new(heap, machine)?,
+    pub(crate) fn new(machine: M) -> Progress<M> {
+        Progress {
+            walk: Walk::new(machine),
             limit: 0,
             threshold: None,
             least: None,
-        })
+        }
     }
 
     // A search from this machine, with no look made.
     pub(crate) fn begin(&mut self, machine: M, limit: u8)
-        requires { limit ≤ 64 }
+        requires { limit ≤ HIGHEST_LIMIT }
         ensures { (e : M.State → ℕ) →
             UnderWay M.meaning M.state e limit (M.state machine) self.new (all_looks M.meaning e limit (M.state machine)) }
     {
@@ -94,8 +97,8 @@ impl<M: Machine + Drop> Progress<M> {
             return self.look_not_cut();
         }
         self.least = Some(lesser(self.least, total));
-        let on = self.walk.leave();
-        self.settle(on)
+        let step = self.walk.leave();
+        self.settle(step)
     }
 
     // The state is not cut: it is home, or it is continued.
@@ -109,20 +112,23 @@ impl<M: Machine + Drop> Progress<M> {
         if self.walk.here().is_home() {
             return Seen::Home;
         }
-        let on = self.walk.advance();
-        self.settle(on)
+        let step = self.walk.advance();
+        self.settle(step)
     }
 
     // Where the walk has not gone on, the round is over.
-    fn settle(&mut self, on: bool) -> Seen
+    fn settle(&mut self, step: Step) -> Seen
         ensures { (e : M.State → ℕ) (limit : ℕ) (s : M.State) (threshold : ℕ) (left : List Look) →
             self.old.limit ≡ limit →
             self.old.threshold ≡ Some threshold →
             threshold ≤ limit →
-            Went M.meaning M.state e threshold s left on self.old.walk →
+            Went M.meaning M.state e threshold s left step self.old.walk →
             GoneOn M.meaning M.state e limit s result self.new (to_come M.meaning e limit s self.old.least left) }
     {
-        if on { Seen::GoesOn } else { self.next_round() }
+        match step {
+            Step::Reached => Seen::GoesOn,
+            Step::RoundOver => self.next_round(),
+        }
     }
 
     // The least total cut is the next threshold, if it is not above the limit.

@@ -1,1 +1,1 @@
-pub mod Spinning
+pub mod Spun

@@ -6,9 +6,9 @@ use Rattle.std.proofs.Math.Bridge.{le_prop}
 use Rattle.trays.specs.Form.{number_tray, number_regular}
 use Rattle.trays.specs.Arranged.{same_arrangement}
 use Rattle.trays.specs.Run.{partner}
-use Rattle.trays.proofs.Kind.{Kind}
-use Rattle.trays.proofs.Permuting.{first_in_order}
-use Rattle.ring.specs.declared.kind.TrayRing.{TrayRing}
+use Rattle.trays.proofs.KindFacts.{KindFacts}
+use Rattle.trays.proofs.Permutations.{first_in_order}
+use Rattle.ring.specs.declared.tray_ring.TrayRing.{TrayRing}
 use Rattle.ring.specs.Ring.{held, mirrored, permuted, refitted, ring, start, turn_exchange, turn_moves}
 
 -- what no turn changes
@@ -31,7 +31,7 @@ same_ring s t p q =
 pub held_fixed : (s t : TrayRing) → held s ≡ held t → s ≡ t
 held_fixed s t e = same_ring s t (ap (λ h. (h.count, unwrap_or h.span 0)) e) (ap (λ h. h.trays) e)
 
-unfoldable pub ring_kind : Kind number_tray number_regular ring mirrored base
+unfoldable pub ring_kind : KindFacts number_tray number_regular ring mirrored base
 ring_kind = record {
   trays = λ s. s.arrangement.trays;
   count = λ b. b.0;
@@ -41,7 +41,7 @@ ring_kind = record {
   refitted = λ s ys p. (refitted s ys p, refl, refl);
   range = λ s t e. (refl, ap (λ (b : ℕ × ℕ). b.0) e);
   from_one = λ s. omega arith;
-  to_250 = λ s. let m = s.arrangement.most in omega arith;
+  to_highest = λ s. let m = s.arrangement.most in omega arith;
   move = λ b p. record { to = partner b.0 b.1 (start b.0 p); over = λ i. false };
   exchange = turn_exchange;
   after_base = λ s p. refl;

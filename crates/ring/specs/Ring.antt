@@ -4,12 +4,12 @@ use Rattle.machine.specs.Meaning.{Meaning}
 use Rattle.trays.specs.Form.{number_tray, number_regular}
 use Rattle.trays.specs.Permutation.{in_order, inverse}
 use Rattle.trays.specs.Run.{run_turned}
-use Rattle.trays.specs.Setting.{Holding}
+use Rattle.trays.specs.Settable.{Holding}
 use Rattle.trays.proofs.Exchange.{Exchange, Moved, moved_permutation}
-use Rattle.trays.proofs.Inverting.{inverse_permutation}
-use Rattle.trays.proofs.Permuting.{Permutation, from_test, to_test}
-use Rattle.trays.proofs.Running.{run_move, run_exchange, run_moved}
-use Rattle.ring.specs.declared.kind.TrayRing.{TrayRing}
+use Rattle.trays.proofs.Inverses.{inverse_permutation}
+use Rattle.trays.proofs.Permutations.{Permutation, from_test, to_test}
+use Rattle.trays.proofs.Runs.{run_move, run_exchange, run_moved}
+use Rattle.ring.specs.declared.tray_ring.TrayRing.{TrayRing}
 
 -- `towers/specs/Towers.antt` has the same for a tower, whose struct has no span and no bounds on it.
 

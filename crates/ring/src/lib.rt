@@ -1,7 +1,7 @@
+//! The ring: trays on a circle, where a turn turns round a run of as many of them as the span says.
+
 #![tactic(auto)]
 
-mod kind;
-mod set;
-mod turns;
+mod tray_ring;
 
-pub use kind::TrayRing;
+pub use tray_ring::TrayRing;

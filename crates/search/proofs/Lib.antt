@@ -1,5 +1,5 @@
 pub mod Bounds
-pub mod Finding
+pub mod ShortestFound
 pub mod Limits
 pub mod Lists
 pub mod Rounds

@@ -5,7 +5,7 @@ ghost use Rattle.search.specs.Shortest.{FindsShortest, Unbounded};
 use estimate::Estimate;
 use machine::Machine;
 
-// The threshold of the first round of a search: the estimate of the machine. Where that is above the limit there is none, and the search ends without a plan. `shortest` and `unbounded` are of every search by this estimate, within any limit and from any state.
+/// The threshold of the first round of a search: the estimate of the machine. Where that is above the limit there is none, and the search ends without a plan. `shortest` and `unbounded` are of every search by this estimate, within any limit and from any state.
 #[tactic(auto, using(crate::proofs::Bounds::unbounded))]
 pub fn first_threshold<M: Machine, E: Estimate<M>>(
     machine: &M,

@@ -35,7 +35,7 @@ width Fetch = 0
 width Drop = 0
 
 -- A tape begins with this command: with its letter, and then its operand bytes, as many as it has.
-pub record Begins (tape : List ℕ) (c : Command) : Type 0 where
+pub record StartsWith (tape : List ℕ) (c : Command) : Type 0 where
   pub rest : List ℕ
   pub is : tape ≡ letter_of c ∷ (operands_of c ++ rest)
   pub whole : length (operands_of c) ≡ width c
@@ -50,5 +50,5 @@ Unreadable (letter ∷ rest) f = ⊥
 -- What is read at the beginning of a tape, or none at its end.
 abbrev pub Reads : List ℕ → Result (Option Command) Fault → Type 0
 Reads tape (Ok None) = tape ≡ []
-Reads tape (Ok (Some c)) = Begins tape c
+Reads tape (Ok (Some c)) = StartsWith tape c
 Reads tape (Err f) = Unreadable tape f

@@ -5,7 +5,7 @@ use Rattle.tape.specs.declared.command.Command.{Command}
 use Rattle.tape.specs.declared.command.Command.TheVariants.{Ring, Work}
 use Rattle.tape.specs.declared.fault.Fault.{Fault}
 use Rattle.tape.specs.declared.fault.Fault.TheVariants.{Machine, Planner}
-use Rattle.tape.specs.declared.fault.Refusal.{Refusal}
+use Rattle.tape.specs.declared.refusal.Refusal.{Refusal}
 use Rattle.tape.specs.declared.placed.Placed.{Placed}
 
 -- How far after the letter the first tray byte of a load stands.

@@ -1,5 +1,5 @@
 ghost use Rattle.std.specs.Prelude.{◌≡◌, ◌<◌, ◌==◌, ◌∷◌, ◌++◌, length, drop, MatchResult};
-ghost use Rattle.tape.specs.Commands.{Begins, Reads, Unreadable, width};
+ghost use Rattle.tape.specs.Commands.{Reads, StartsWith, Unreadable, width};
 ghost use Rattle.tape.specs.declared.fault.Fault.TheVariants.{OperandsCut};
 
 use crate::fault::Fault;
@@ -7,25 +7,27 @@ use machine::Machine;
 use ring::TrayRing;
 use towers::{PlainTower, SidedTower};
 
-// A command with its operand bytes, as they lie on the tape.
+/// A command with its operand bytes, as they lie on the tape.
 #[derive(Clone, Copy, PartialEq, Eq, Debug)]
 pub enum Command<'a> {
-    // a load of a plain tower: the limit, N and 32 trays
+    /// a load of a plain tower: the limit, N and 32 trays
     Plain(&'a [u8; 34]),
-    // a load of a sided tower: the same
+    /// a load of a sided tower: the same
     Sided(&'a [u8; 34]),
-    // a load of a ring: the limit, N, K and 32 trays
+    /// a load of a ring: the limit, N, K and 32 trays
     Ring(&'a [u8; 35]),
-    // work, with a grant of four bytes
+    /// work, with a grant of four bytes
     Work(&'a [u8; 4]),
-    // work, with a grant of 10,000
+    /// work, with the grant that needs no operand
     Go,
+    /// fetch
     Fetch,
+    /// drop
     Drop,
 }
 
 impl<'a> Command<'a> {
-    // The command with which the tape begins, or none at its end.
+    /// The command with which the tape begins, or none at its end.
     pub fn read(tape: &'a [u8]) -> Result<Option<Command<'a>>, Fault>
         ensures { Reads tape.now result }
     {
@@ -37,7 +39,7 @@ impl<'a> Command<'a> {
 
     // The command of this letter, with its operands out of what follows.
     fn after(letter: u8, rest: &'a [u8]) -> Result<Command<'a>, Fault>
-        ensures { MatchResult result (λ c. Begins (letter ∷ rest.now) c) (λ f. Unreadable (letter ∷ rest.now) f) }
+        ensures { MatchResult result (λ c. StartsWith (letter ∷ rest.now) c) (λ f. Unreadable (letter ∷ rest.now) f) }
     {
         match letter {
             b if loads::<PlainTower>(b) => Ok(Command::Plain(operands(rest)?)),
@@ -51,7 +53,7 @@ impl<'a> Command<'a> {
         }
     }
 
-    // How many operand bytes it has.
+    /// How many operand bytes it has.
     pub fn width(&self) -> usize
         ensures { result ≡ width self.now }
     {

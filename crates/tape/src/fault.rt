@@ -1,24 +1,73 @@
 ghost use Rattle.std.specs.Prelude.{◌≡◌};
+ghost use Rattle.tape.specs.Replies.{fault_code};
 ghost use Rattle.tape.specs.declared.fault.Fault.TheVariants.{Machine, Planner};
 
-// Why the console refuses a call or a command.
+use std::error::Error;
+use std::fmt;
+
+/// Why the console refuses a call or a command.
 #[derive(Clone, Copy, PartialEq, Eq, Debug)]
 pub enum Fault {
-    // 1: the tape has more than 4,096 bytes
+    /// 1: the tape has more than 4,096 bytes
     TapeLength,
-    // 2: the place is beyond the tape's end
+    /// 2: the place is beyond the tape's end
     Place,
-    // 3: the reply buffer has fewer than 66 bytes
+    /// 3: the reply buffer has fewer than 66 bytes
     ReplyRoom,
-    // 4: no command has this letter
+    /// 4: no command has this letter
     UnknownCommand,
-    // 5: the operands run past the tape's end
+    /// 5: the operands run past the tape's end
     OperandsCut,
-    // 6 to 11
+    /// 6 to 11
     Machine(machine::Fault),
-    // 12 to 18
+    /// 12 to 18
     Planner(planner::Fault),
 }
+
+impl Fault {
+    /// The layer byte, which says which part refuses.
+    pub fn layer(self) -> u8
+        ensures { result ≡ (fault_code self).layer }
+    {
+        match self {
+            Fault::TapeLength | Fault::Place | Fault::ReplyRoom => 1,
+            Fault::UnknownCommand | Fault::OperandsCut => 2,
+            Fault::Machine(_) => 3,
+            Fault::Planner(_) => 4,
+        }
+    }
+
+    /// The number of the refusal.
+    pub fn number(self) -> u8
+        ensures { result ≡ (fault_code self).number }
+    {
+        match self {
+            Fault::TapeLength => 1,
+            Fault::Place => 2,
+            Fault::ReplyRoom => 3,
+            Fault::UnknownCommand => 4,
+            Fault::OperandsCut => 5,
+            Fault::Machine(fault) => fault.number(),
+            Fault::Planner(fault) => fault.number(),
+        }
+    }
+}
+
+impl fmt::Display for Fault {
+    fn fmt<W: fmt::Write>(&self, f: &mut fmt::Formatter<W>) -> fmt::Result {
+        match self {
+            Fault::TapeLength => f.write_str("the tape has too many bytes"),
+            Fault::Place => f.write_str("the place is beyond the end of the tape"),
+            Fault::ReplyRoom => f.write_str("there is too little room for a reply"),
+            Fault::UnknownCommand => f.write_str("no command has this letter"),
+            Fault::OperandsCut => f.write_str("the tape ends before the operands do"),
+            Fault::Machine(fault) => write!(f, "{fault}"),
+            Fault::Planner(fault) => write!(f, "{fault}"),
+        }
+    }
+}
+
+impl Error for Fault {}
 
 impl From<machine::Fault> for Fault {
     ghost from_gives = { λ f fault. fault ≡ Machine f };
@@ -34,11 +83,4 @@ impl From<planner::Fault> for Fault {
     fn from(f: planner::Fault) -> Fault {
         Fault::Planner(f)
     }
-}
-
-// A fault and the place of the byte at fault, from 0.
-#[derive(Clone, Copy, PartialEq, Eq, Debug)]
-pub struct Refusal {
-    pub fault: Fault,
-    pub place: u16,
 }

@@ -3,9 +3,10 @@ ghost use Rattle.tape.specs.Commands.{width};
 ghost use Rattle.tape.specs.Places.{fault_at, grant_at, refused_for, trays_at};
 
 use crate::command::Command;
-use crate::fault::{Fault, Refusal};
+use crate::fault::Fault;
+use crate::refusal::Refusal;
 
-// A command and the place on the tape where it begins, from 0.
+/// A command and the place on the tape where it begins, from 0.
 #[derive(Clone, Copy, PartialEq, Eq, Debug)]
 pub struct Placed<'a> {
     pub command: Command<'a>,
@@ -13,14 +14,14 @@ pub struct Placed<'a> {
 }
 
 impl Placed<'_> {
-    // The place after the command and its operands.
+    /// The place after the command and its operands.
     pub fn next(&self) -> usize
         ensures { result ≡ self.now.place + 1 + width self.now.command }
     {
         usize::from(self.place) + 1 + self.command.width()
     }
 
-    // The refusal of this command, with the place of the byte at fault.
+    /// The refusal of this command, with the place of the byte at fault.
     pub fn refused(&self, fault: Fault) -> Refusal
         ensures { result ≡ refused_for self.now fault }
     {

@@ -51,7 +51,7 @@ fn unknown_letters(rt: HostRuntime) -> Result<(), Fail> {
 fn next_tape(rt: HostRuntime) -> Result<(), Fail> {
     let load = tower(b'P', 64, 3, &[1, 3, 2]);
     let cut = &load[..34];
-    let mut console = Console::new(rt.alloc())?;
+    let mut console = Console::new();
     ask(&rt, &mut console, &load, 0, 35, b"A");
     ask(&rt, &mut console, b"WDDD", 0, 4, &refused(5, 0));
     ask(&rt, &mut console, &work(2), 0, 5, &working(2));

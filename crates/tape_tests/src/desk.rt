@@ -1,11 +1,11 @@
 use crate::commands::{found, refused, tower, work, working};
-use console::{Console, Ran, replies};
+use console::{Console, LONGEST_REPLIES, Ran, write_replies};
 use std::alloc::{AllocError, Global};
 use std::process::Abort;
 use std::test::*;
 
 // What stands in the room for a reply before one is written.
-const MARK: u8 = 0xA5;
+pub(crate) const MARK: u8 = 0xA5;
 
 // The room for a reply.
 pub(crate) const UNTOUCHED: [u8; 70] = [MARK; 70];
@@ -38,6 +38,14 @@ pub(crate) fn ask(
     assert_eq!(rt; room, written(reply), "at place {place}");
 }
 
+// All replies to a tape.
+pub(crate) fn replies(rt: &impl AllocGlobal, tape: &[u8]) -> Result<Vec<u8>, AllocError> {
+    let mut room = vec![in rt.alloc(); MARK; LONGEST_REPLIES]?;
+    let count = write_replies(tape, &mut room);
+    room.truncate(count);
+    Ok(room)
+}
+
 // A command or more, and the reply.
 pub(crate) type Step<'a> = (&'a [u8], &'a [u8]);
 
@@ -49,8 +57,8 @@ pub(crate) fn check(rt: &(impl Abort + AllocGlobal), steps: &[Step]) -> Result<(
         tape.extend_from_slice(command)?;
         told.extend_from_slice(reply)?;
     }
-    assert_eq!(rt; replies(rt.alloc(), &tape)?.as_slice(), told.as_slice());
-    let mut console = Console::new(rt.alloc())?;
+    assert_eq!(rt; replies(rt, &tape)?.as_slice(), told.as_slice());
+    let mut console = Console::new();
     let mut place = 0usize;
     for (command, reply) in steps {
         let next = place.saturating_add(command.len());
@@ -65,8 +73,8 @@ pub(crate) fn check(rt: &(impl Abort + AllocGlobal), steps: &[Step]) -> Result<(
 pub(crate) type Refused<'a> = (&'a [u8], u8, u16);
 
 // A console where no task is at work, or one.
-fn console(rt: &(impl Abort + AllocGlobal), at_work: bool) -> Result<Console, Fail> {
-    let mut console = Console::new(rt.alloc())?;
+fn console(rt: &impl Abort, at_work: bool) -> Console {
+    let mut console = Console::new();
     if at_work {
         ask(
             rt,
@@ -77,7 +85,7 @@ fn console(rt: &(impl Abort + AllocGlobal), at_work: bool) -> Result<Console, Fa
             b"A",
         );
     }
-    Ok(console)
+    console
 }
 
 // A tape with the command at this place, behind drops.
@@ -97,7 +105,7 @@ pub(crate) fn check_refused(
     at_work: bool,
     refusals: &[Refused],
 ) -> Result<(), Fail> {
-    let mut console = console(rt, at_work)?;
+    let mut console = console(rt, at_work);
     for place in [0u16, 1, 255, 300, 3000] {
         for (command, number, offset) in refusals {
             let mut tape = behind_drops(rt.alloc(), place, command)?;

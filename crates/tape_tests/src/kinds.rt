@@ -71,7 +71,7 @@ fn pairs(rt: HostRuntime) -> Result<(), Fail> {
         (sided, sided),
         (ring, ring),
     ] {
-        let mut console = Console::new(rt.alloc())?;
+        let mut console = Console::new();
         check_at_work(&rt, &mut console, first, other);
         check_switch(&rt, &mut console, first, other);
     }

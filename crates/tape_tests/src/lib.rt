@@ -1,3 +1,5 @@
+//! Examples that run: tapes and the replies to them.
+
 #![tactic(auto)]
 
 #[cfg(test)]
@@ -18,5 +20,7 @@ mod mixed;
 mod refusals;
 #[cfg(test)]
 mod sizes;
+#[cfg(test)]
+mod texts;
 #[cfg(test)]
 mod worked;

@@ -1,14 +1,14 @@
 use crate::commands::{COUNTING, fetched, found, refused, ring, tower, work, working};
-use crate::desk::{UNTOUCHED, ask, behind_drops, written};
-use console::{Console, LONGEST_TAPE, replies};
+use crate::desk::{UNTOUCHED, ask, behind_drops, replies, written};
+use console::{Console, LONGEST_TAPE};
 use std::process::Abort;
 use std::test::*;
 use tape::{Fault, LONGEST_REPLY, Refusal};
 
 #[test]
 fn no_bytes(rt: HostRuntime) -> Result<(), Fail> {
-    assert_eq!(rt; replies(rt.alloc(), &[])?.len(), 0);
-    let mut console = Console::new(rt.alloc())?;
+    assert_eq!(rt; replies(&rt, &[])?.len(), 0);
+    let mut console = Console::new();
     ask(&rt, &mut console, &[], 0, 0, &[]);
     Ok(())
 }
@@ -18,7 +18,7 @@ fn no_bytes(rt: HostRuntime) -> Result<(), Fail> {
 fn longest_tape(rt: HostRuntime) -> Result<(), Fail> {
     assert_eq!(rt; LONGEST_TAPE, 4096);
     let tape = vec![in rt.alloc(); b'D'; 4096]?;
-    let mut console = Console::new(rt.alloc())?;
+    let mut console = Console::new();
     let mut told = Vec::new(rt.alloc());
     for place in 0..4096u16 {
         let reply = refused(18, place);
@@ -27,7 +27,7 @@ fn longest_tape(rt: HostRuntime) -> Result<(), Fail> {
         told.extend_from_slice(&reply)?;
     }
     ask(&rt, &mut console, &tape, 4096, 4096, &[]);
-    let all = replies(rt.alloc(), &tape)?;
+    let all = replies(&rt, &tape)?;
     assert_eq!(rt; all.as_slice(), told.as_slice());
     assert_eq!(rt; all.last_chunk(), Some(&[0x45, 0x04, 0x12, 0x0F, 0xFF]));
     Ok(())
@@ -47,7 +47,7 @@ fn last_bytes(rt: HostRuntime) -> Result<(), Fail> {
     ];
     for (place, load, number, at) in cases {
         let tape = behind_drops(rt.alloc(), place, load)?;
-        let mut console = Console::new(rt.alloc())?;
+        let mut console = Console::new();
         ask(
             &rt,
             &mut console,
@@ -84,7 +84,7 @@ fn calls(rt: HostRuntime) -> Result<(), Fail> {
     assert_eq!(rt; LONGEST_REPLY, 66);
     let load = tower(b'P', 64, 3, &[1, 3, 2]);
     let long = vec![in rt.alloc(); b'D'; 4097]?;
-    let mut console = Console::new(rt.alloc())?;
+    let mut console = Console::new();
     let c = &mut console;
     ask(&rt, c, &load, 0, 35, b"A");
     for size in [0, 1, 65, 66, 70] {
@@ -118,7 +118,7 @@ fn calls(rt: HostRuntime) -> Result<(), Fail> {
 fn told_whole(rt: HostRuntime) -> Result<(), Fail> {
     let long = vec![in rt.alloc(); b'D'; 4097]?;
     assert_eq!(rt;
-        replies(rt.alloc(), &long)?.as_slice(),
+        replies(&rt, &long)?.as_slice(),
         [0x45, 1, 1, 0, 0].as_slice()
     );
     for (fault, number) in [
@@ -138,7 +138,7 @@ fn told_whole(rt: HostRuntime) -> Result<(), Fail> {
 #[test]
 fn rooms(rt: HostRuntime) -> Result<(), Fail> {
     let load = tower(b'P', 64, 3, &[1, 3, 2]);
-    let mut console = Console::new(rt.alloc())?;
+    let mut console = Console::new();
     ask(&rt, &mut console, &load, 0, 35, b"A");
     ask(&rt, &mut console, &work(4), 0, 5, &found(3, 4));
     for size in 66..=70 {

@@ -1,6 +1,6 @@
 use crate::commands::{fetched, found, none, refused, ring, tower, work, working};
-use crate::desk::{ask, check};
-use console::{Console, replies};
+use crate::desk::{MARK, ask, check, replies};
+use console::{Console, write_replies};
 use std::test::*;
 
 // The first worked tape: a load, two grants and a fetch.
@@ -17,18 +17,39 @@ const REPLIES: [u8; 78] = [
 
 #[test]
 fn two_tapes(rt: HostRuntime) -> Result<(), Fail> {
-    assert_eq!(rt; replies(rt.alloc(), &TAPE)?.as_slice(), REPLIES.as_slice());
+    assert_eq!(rt; replies(&rt, &TAPE)?.as_slice(), REPLIES.as_slice());
     assert_eq!(rt;
-        replies(rt.alloc(), b"D")?.as_slice(),
+        replies(&rt, b"D")?.as_slice(),
         [0x45, 0x04, 0x12, 0x00, 0x00].as_slice()
     );
+    Ok(())
+}
+
+// A room holds the first of the replies, as far as it goes, and what is past them stays.
+#[test]
+fn rooms(rt: HostRuntime) -> Result<(), Fail> {
+    for size in [0usize, 1, 5, 12, 77, 78, 80] {
+        let mut room = [MARK; 80];
+        assert_eq!(rt;
+            write_replies(&TAPE, &mut room[..size]),
+            78,
+            "in {size} bytes"
+        );
+        let told = size.min(78);
+        assert_eq!(rt; &room[..told], &REPLIES[..told], "in {size} bytes");
+        assert_eq!(rt;
+            room[told..].iter().all(|byte| *byte == MARK),
+            true,
+            "in {size} bytes"
+        );
+    }
     Ok(())
 }
 
 // Each call is at a place, leads to the next one, and writes its part of the replies.
 #[test]
 fn call_by_call(rt: HostRuntime) -> Result<(), Fail> {
-    let mut console = Console::new(rt.alloc())?;
+    let mut console = Console::new();
     ask(&rt, &mut console, &TAPE, 0, 35, &REPLIES[..1]);
     ask(&rt, &mut console, &TAPE, 35, 40, &REPLIES[1..6]);
     ask(&rt, &mut console, &TAPE, 40, 45, &REPLIES[6..12]);

@@ -1,1 +1,2 @@
+pub mod NeverHome
 pub mod Shuttles

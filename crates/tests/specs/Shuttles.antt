@@ -24,4 +24,4 @@ moved_back true s = refl
 moved_back false s = carried_back s.0 s.1
 
 pub shuttle_lawful : Lawful shuttle
-shuttle_lawful = record { from_one = λ _. le_refl 1; to_250 = λ _. le-add_right 2 248; twice = λ s k _. moved_back (k == 1) s; same_lowest = λ _ _ _. refl; same_highest = λ _ _ _. refl }
+shuttle_lawful = record { from_one = λ _. le_refl 1; to_highest = λ _. le-add_right 2 248; twice = λ s k _. moved_back (k == 1) s; same_lowest = λ _ _ _. refl; same_highest = λ _ _ _. refl }

@@ -1,11 +1,11 @@
-use crate::given::{falling, home, ring, told, tower};
+use crate::given::{estimates, falling, home, ring, tower};
 use estimate::{DualLookup, Estimate, LookAhead, SuccessorEstimate};
 use gaps::{Breakpoints, Gaps, HalfGaps, count_breakpoints, count_gaps, count_ring_gaps};
 use machine::{Dual, Machine};
+use outcome::estimates_of;
 use ring::TrayRing;
 use std::process::Abort;
 use std::test::*;
-use task::estimates_of;
 use towers::{PlainTower, SidedTower, SidedTray};
 
 #[test]
@@ -42,7 +42,7 @@ fn gaps_of_rings(rt: HostRuntime) -> Result<(), Fail> {
 
 // A machine that is home needs no turns.
 fn check_home<M: Dual + Copy, E: SuccessorEstimate<M> + Copy>(rt: &impl Abort, home: M, count: E) {
-    assert_eq!(rt; estimates_of(&home, count), told(0, 0, 0));
+    assert_eq!(rt; estimates_of(&home, count), estimates(0, 0, 0));
 }
 
 #[test]
@@ -64,19 +64,19 @@ fn homes(rt: HostRuntime) -> Result<(), Fail> {
 fn one_turn_ahead(rt: HostRuntime) -> Result<(), Fail> {
     assert_eq!(rt;
         estimates_of(&tower::<u8>(3, &[1, 3, 2])?, Gaps),
-        told(2, 3, 3)
+        estimates(2, 3, 3)
     );
     assert_eq!(rt;
         estimates_of(&tower::<SidedTray>(3, &[3, 129, 2])?, Breakpoints),
-        told(3, 4, 4)
+        estimates(3, 4, 4)
     );
     assert_eq!(rt;
         estimates_of(&tower::<SidedTray>(3, &[130, 3, 1])?, Breakpoints),
-        told(3, 3, 4)
+        estimates(3, 3, 4)
     );
     assert_eq!(rt;
         estimates_of(&ring(4, 2, &[2, 3, 4, 1])?, HalfGaps),
-        told(0, 2, 2)
+        estimates(0, 2, 2)
     );
     Ok(())
 }

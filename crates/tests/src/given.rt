@@ -1,15 +1,15 @@
 use estimate::{DualLookup, LookAhead};
 use gaps::Gaps;
 use machine::Fault;
+use outcome::Estimates;
 use ring::TrayRing;
 use std::process::Abort;
 use std::test::*;
-use task::Estimates;
 use towers::{Tower, TowerTray};
 use trays::{Settable, Setup};
 
 // Dual lookup over look-ahead over gaps.
-pub(crate) const PILED: DualLookup<LookAhead<Gaps>> = DualLookup {
+pub(crate) const LAYERED: DualLookup<LookAhead<Gaps>> = DualLookup {
     below: LookAhead { below: Gaps },
 };
 
@@ -67,7 +67,7 @@ where
 }
 
 // The estimates with these numbers.
-pub(crate) fn told(count: u8, look_ahead: u8, dual_lookup: u8) -> Estimates {
+pub(crate) fn estimates(count: u8, look_ahead: u8, dual_lookup: u8) -> Estimates {
     Estimates {
         count,
         look_ahead,

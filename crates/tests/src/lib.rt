@@ -1,3 +1,5 @@
+//! Tests of what no contract says: values from outside, texts, and each public function at a concrete type.
+
 #![tactic(auto)]
 
 #[cfg(test)]
@@ -5,7 +7,7 @@ mod arrangements;
 #[cfg(test)]
 mod calls;
 #[cfg(test)]
-mod desk;
+mod checked_planner;
 #[cfg(test)]
 mod duals;
 #[cfg(test)]

@@ -1,4 +1,4 @@
-use crate::desk::sheet_of;
+use crate::checked_planner::{UNTOUCHED, sheet_of};
 use crate::given::tower;
 use gaps::Gaps;
 use planner::{Answer, Call, Fault, Played, play};
@@ -15,14 +15,19 @@ fn check_play(rt: &(impl Abort + AllocGlobal), steps: &[Step]) -> Result<(), Fai
     for (call, _, _) in steps {
         calls.push(*call)?;
     }
-    let played = play(rt.alloc(), tower::<u8>(1, &[1])?, Gaps, calls)?;
-    assert_eq!(rt; played.len(), steps.len());
-    for (n, (call, step)) in played.iter().zip(steps).enumerate() {
-        let played = Played {
+    let unplayed = Played {
+        reply: Ok(Answer::Accepted),
+        sheet: UNTOUCHED,
+    };
+    let mut replies = vec![in rt.alloc(); unplayed; steps.len()]?;
+    let played = play(tower::<u8>(1, &[1])?, Gaps, &mut calls, &mut replies);
+    assert_eq!(rt; played, steps.len());
+    for (n, (reply, step)) in replies.iter().zip(steps).enumerate() {
+        let expected = Played {
             reply: step.1,
             sheet: sheet_of(step.2),
         };
-        assert_eq!(rt; *call, played, "at call {n}");
+        assert_eq!(rt; *reply, expected, "at call {n}");
     }
     Ok(())
 }
@@ -40,15 +45,47 @@ fn two_plans(rt: HostRuntime) -> Result<(), Fail> {
     check_play(
         &rt,
         &[
-            (Call::Load(three, 64), Ok(Answer::Accepted), &[]),
-            (Call::Work(6), Ok(Answer::Working(6)), &[]),
-            (Call::Work(1), Ok(Answer::Found(3, 7)), &[]),
-            (Call::Fetch, Ok(Answer::Fetched(3)), &[2, 3, 2]),
-            (Call::Load(two, 64), Ok(Answer::Accepted), &[2, 3, 2]),
+            (
+                Call::Load {
+                    machine: three,
+                    limit: 64,
+                },
+                Ok(Answer::Accepted),
+                &[],
+            ),
+            (
+                Call::Work { grant: 6 },
+                Ok(Answer::Working { looks: 6 }),
+                &[],
+            ),
+            (
+                Call::Work { grant: 1 },
+                Ok(Answer::Found {
+                    length: 3,
+                    looks: 7,
+                }),
+                &[],
+            ),
+            (Call::Fetch, Ok(Answer::Fetched { length: 3 }), &[2, 3, 2]),
+            (
+                Call::Load {
+                    machine: two,
+                    limit: 64,
+                },
+                Ok(Answer::Accepted),
+                &[2, 3, 2],
+            ),
             (Call::Fetch, Err(Fault::NotFound), &[2, 3, 2]),
-            (Call::Work(9), Ok(Answer::Found(1, 2)), &[2, 3, 2]),
-            (Call::Fetch, Ok(Answer::Fetched(1)), &[2]),
-            (Call::Fetch, Ok(Answer::Fetched(1)), &[2]),
+            (
+                Call::Work { grant: 9 },
+                Ok(Answer::Found {
+                    length: 1,
+                    looks: 2,
+                }),
+                &[2, 3, 2],
+            ),
+            (Call::Fetch, Ok(Answer::Fetched { length: 1 }), &[2]),
+            (Call::Fetch, Ok(Answer::Fetched { length: 1 }), &[2]),
         ],
     )
 }
@@ -61,19 +98,58 @@ fn refusals_among_the_calls(rt: HostRuntime) -> Result<(), Fail> {
         &rt,
         &[
             (Call::Fetch, Err(Fault::NotFound), &[]),
-            (Call::Work(1), Err(Fault::NoTask), &[]),
+            (Call::Work { grant: 1 }, Err(Fault::NoTask), &[]),
             (Call::Drop, Err(Fault::NothingToDrop), &[]),
-            (Call::Load(three, 65), Err(Fault::Limit), &[]),
-            (Call::Load(three, 64), Ok(Answer::Accepted), &[]),
-            (Call::Work(0), Err(Fault::Grant), &[]),
-            (Call::Work(4), Ok(Answer::Working(4)), &[]),
-            (Call::Load(two, 64), Err(Fault::AtWork), &[]),
-            (Call::Load(two, 65), Err(Fault::Limit), &[]),
+            (
+                Call::Load {
+                    machine: three,
+                    limit: 65,
+                },
+                Err(Fault::Limit),
+                &[],
+            ),
+            (
+                Call::Load {
+                    machine: three,
+                    limit: 64,
+                },
+                Ok(Answer::Accepted),
+                &[],
+            ),
+            (Call::Work { grant: 0 }, Err(Fault::Grant), &[]),
+            (
+                Call::Work { grant: 4 },
+                Ok(Answer::Working { looks: 4 }),
+                &[],
+            ),
+            (
+                Call::Load {
+                    machine: two,
+                    limit: 64,
+                },
+                Err(Fault::AtWork),
+                &[],
+            ),
+            (
+                Call::Load {
+                    machine: two,
+                    limit: 65,
+                },
+                Err(Fault::Limit),
+                &[],
+            ),
             (Call::Fetch, Err(Fault::NotFound), &[]),
-            (Call::Work(1_000_001), Err(Fault::Grant), &[]),
-            (Call::Work(1_000_000), Ok(Answer::Found(3, 7)), &[]),
-            (Call::Work(1_000_001), Err(Fault::NoTask), &[]),
-            (Call::Fetch, Ok(Answer::Fetched(3)), &[2, 3, 2]),
+            (Call::Work { grant: 1_000_001 }, Err(Fault::Grant), &[]),
+            (
+                Call::Work { grant: 1_000_000 },
+                Ok(Answer::Found {
+                    length: 3,
+                    looks: 7,
+                }),
+                &[],
+            ),
+            (Call::Work { grant: 1_000_001 }, Err(Fault::NoTask), &[]),
+            (Call::Fetch, Ok(Answer::Fetched { length: 3 }), &[2, 3, 2]),
             (Call::Drop, Err(Fault::NothingToDrop), &[2, 3, 2]),
         ],
     )
@@ -86,17 +162,60 @@ fn drops_among_the_calls(rt: HostRuntime) -> Result<(), Fail> {
     check_play(
         &rt,
         &[
-            (Call::Load(two, 1), Ok(Answer::Accepted), &[]),
-            (Call::Work(2), Ok(Answer::Found(1, 2)), &[]),
-            (Call::Fetch, Ok(Answer::Fetched(1)), &[2]),
-            (Call::Load(three, 64), Ok(Answer::Accepted), &[2]),
-            (Call::Work(5), Ok(Answer::Working(5)), &[2]),
+            (
+                Call::Load {
+                    machine: two,
+                    limit: 1,
+                },
+                Ok(Answer::Accepted),
+                &[],
+            ),
+            (
+                Call::Work { grant: 2 },
+                Ok(Answer::Found {
+                    length: 1,
+                    looks: 2,
+                }),
+                &[],
+            ),
+            (Call::Fetch, Ok(Answer::Fetched { length: 1 }), &[2]),
+            (
+                Call::Load {
+                    machine: three,
+                    limit: 64,
+                },
+                Ok(Answer::Accepted),
+                &[2],
+            ),
+            (
+                Call::Work { grant: 5 },
+                Ok(Answer::Working { looks: 5 }),
+                &[2],
+            ),
             (Call::Drop, Ok(Answer::Accepted), &[2]),
             (Call::Fetch, Err(Fault::NotFound), &[2]),
-            (Call::Load(two, 0), Ok(Answer::Accepted), &[2]),
-            (Call::Work(1), Ok(Answer::NoPlan(1)), &[2]),
+            (
+                Call::Load {
+                    machine: two,
+                    limit: 0,
+                },
+                Ok(Answer::Accepted),
+                &[2],
+            ),
+            (
+                Call::Work { grant: 1 },
+                Ok(Answer::NoPlan { looks: 1 }),
+                &[2],
+            ),
             (Call::Fetch, Err(Fault::NotFound), &[2]),
-            (Call::Load(three, 3), Ok(Answer::Accepted), &[2]),
+            (
+                Call::Load {
+                    machine: three,
+                    limit: 3,
+                },
+                Ok(Answer::Accepted),
+                &[2],
+            ),
             (Call::Drop, Ok(Answer::Accepted), &[2]),
             (Call::Drop, Err(Fault::NothingToDrop), &[2]),
         ],

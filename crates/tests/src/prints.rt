@@ -1,6 +1,7 @@
 use std::test::*;
-use text::{Expected, Kind};
+use text::Expected;
 use towers::SidedTray;
+use trays::Kind;
 
 #[test]
 fn trays(rt: HostRuntime) -> Result<(), Fail> {

@@ -1,7 +1,7 @@
 ghost use Rattle.std.specs.Prelude.{◌≡◌, ◌+◌, ◌≤◌};
 ghost use Rattle.std.proofs.Common.{zero-le};
 
-use crate::desk::Desk;
+use crate::checked_planner::CheckedPlanner;
 use estimate::Estimate;
 use machine::{Fault, Machine, TurnRange};
 use std::test::*;
@@ -62,7 +62,7 @@ struct Zero;
 impl Estimate<Shuttle> for Zero {
     ghost value = { λ _ _. 0 };
 
-    ghost sound = { λ _. record { to_250 = λ s. zero-le; admissible = λ s ks b. zero-le } };
+    ghost sound = { λ _. record { to_highest = λ s. zero-le; admissible = λ s ks b. zero-le } };
 
     fn ask(&self, machine: &Shuttle) -> u8 {
         0
@@ -71,7 +71,7 @@ impl Estimate<Shuttle> for Zero {
 
 // The turns 2 and 1 carry one over; turn 1 first leads away. A round with the threshold t looks at the start and at t + 1 states on both ways; in the last one the way home is one state shorter.
 #[test]
-fn as_many_turns_as_a_sheet_has_places(rt: HostRuntime) -> Result<(), Fail> {
+fn as_many_turns_as_a_sheet_has_places(rt: HostRuntime) {
     let machine = Shuttle {
         here: 168,
         there: 32,
@@ -80,8 +80,7 @@ fn as_many_turns_as_a_sheet_has_places(rt: HostRuntime) -> Result<(), Fail> {
     for turn in plan.iter_mut().step_by(2) {
         *turn = 2;
     }
-    let mut desk = Desk::new(rt.alloc(), machine, Zero)?;
-    desk.find_none(&rt, machine, 63, 4224);
-    desk.find(&rt, machine, 64, 4354, &plan);
-    Ok(())
+    let mut planner = CheckedPlanner::new(machine, Zero);
+    planner.find_none(&rt, machine, 63, 4224);
+    planner.find(&rt, machine, 64, 4354, &plan);
 }

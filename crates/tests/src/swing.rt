@@ -1,9 +1,8 @@
 ghost use Rattle.std.specs.Prelude.{false, refl, ◌≤◌};
-ghost use Rattle.std.proofs.Common.{le_refl, le_trans, le-add_right};
-ghost use Rattle.std.proofs.lemmas.Bool.{false≢true};
-ghost use Rattle.estimate.specs.Laws.{consistent_admissible};
+ghost use Rattle.std.proofs.Common.{le_refl};
+ghost use Rattle.tests.specs.NeverHome.{never_home};
 
-use crate::desk::Desk;
+use crate::checked_planner::CheckedPlanner;
 use estimate::{Estimate, LookAhead, SuccessorEstimate};
 use machine::{Fault, Machine, TurnRange};
 use planner::{Answer, Call};
@@ -36,7 +35,7 @@ impl Machine for Swing {
 
     ghost state = { λ s. s };
 
-    ghost lawful = { record { from_one = λ _. le_refl 1; to_250 = λ s. s.few; twice = λ _ _ _. refl; same_lowest = λ _ _ _. refl; same_highest = λ _ _ _. refl } };
+    ghost lawful = { record { from_one = λ _. le_refl 1; to_highest = λ s. s.few; twice = λ _ _ _. refl; same_lowest = λ _ _ _. refl; same_highest = λ _ _ _. refl } };
 
     fn range(&self) -> TurnRange {
         TurnRange {
@@ -69,7 +68,7 @@ struct Numbered;
 impl Estimate<Swing> for Numbered {
     ghost value = { λ _ s. s.here };
 
-    ghost sound = { λ _. record { to_250 = λ s. s.here_to_250; admissible = λ s ks b. le_trans s.here_to_250 (consistent_admissible _ (λ _. 250) (record { home = λ _ at. absurd (false≢true at); turn = λ _ _ _. le-add_right 250 1 }) s ks b) } };
+    ghost sound = { λ _. record { to_highest = λ s. s.here_to_250; admissible = λ s ks b. absurd (never_home _ (λ _. refl) s ks b) } };
 
     fn ask(&self, machine: &Swing) -> u8 {
         machine.here
@@ -117,15 +116,9 @@ fn at_most_250(rt: HostRuntime) {
 }
 
 // There is no plan for this machine within the limit, after so many looks.
-fn check_none(
-    rt: &(impl Abort + AllocGlobal),
-    machine: Swing,
-    limit: u8,
-    looks: u32,
-) -> Result<(), Fail> {
-    let mut desk = Desk::new(rt.alloc(), machine, Numbered)?;
-    desk.find_none(rt, machine, limit, looks);
-    Ok(())
+fn check_none(rt: &impl Abort, machine: Swing, limit: u8, looks: u32) {
+    let mut planner = CheckedPlanner::new(machine, Numbered);
+    planner.find_none(rt, machine, limit, looks);
 }
 
 // A machine of these turns with the number 0.
@@ -140,37 +133,42 @@ fn zeros(highest: u8) -> Swing
 }
 
 #[test]
-fn no_plan_without_turns(rt: HostRuntime) -> Result<(), Fail> {
+fn no_plan_without_turns(rt: HostRuntime) {
     for number in 0..=250 {
         let machine = Swing {
             highest: 0,
             here: number,
             there: number,
         };
-        check_none(&rt, machine, 64, 1)?;
+        check_none(&rt, machine, 64, 1);
     }
-    Ok(())
 }
 
 // A round with the threshold t looks at the start and, with two turns, at t + 1 states on both ways. With one turn it looks at one state more, from which no other turn leads on: the second round cuts nothing and is the last.
 #[test]
-fn no_plan_within_each_limit(rt: HostRuntime) -> Result<(), Fail> {
+fn no_plan_within_each_limit(rt: HostRuntime) {
     for limit in 0..=64 {
         let rounds = u32::from(limit) + 1;
-        check_none(&rt, zeros(1), limit, 2 * rounds.min(2))?;
-        check_none(&rt, zeros(2), limit, rounds * (rounds + 2))?;
+        check_none(&rt, zeros(1), limit, 2 * rounds.min(2));
+        check_none(&rt, zeros(2), limit, rounds * (rounds + 2));
     }
-    Ok(())
 }
 
 // With three turns each round looks at about twice as many states as the one before, and there are 65 rounds.
 #[test]
-fn highest_grant(rt: HostRuntime) -> Result<(), Fail> {
+fn highest_grant(rt: HostRuntime) {
     let machine = zeros(3);
-    let mut desk = Desk::new(rt.alloc(), machine, Numbered)?;
-    desk.load(&rt, machine, 64);
-    desk.ask(&rt, Call::Work(1_000_000), Answer::Working(1_000_000));
-    desk.refuse(&rt, Call::Work(1_000_001), planner::Fault::Grant);
-    desk.ask(&rt, Call::Work(1), Answer::Working(1_000_001));
-    Ok(())
+    let mut planner = CheckedPlanner::new(machine, Numbered);
+    planner.load(&rt, machine, 64);
+    planner.ask(
+        &rt,
+        Call::Work { grant: 1_000_000 },
+        Answer::Working { looks: 1_000_000 },
+    );
+    planner.refuse(&rt, Call::Work { grant: 1_000_001 }, planner::Fault::Grant);
+    planner.ask(
+        &rt,
+        Call::Work { grant: 1 },
+        Answer::Working { looks: 1_000_001 },
+    );
 }

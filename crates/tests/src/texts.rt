@@ -1,15 +1,15 @@
-use crate::given::{home, told};
+use crate::given::{estimates, home};
 use gaps::Gaps;
 use machine::{Ending, Fault, Machine};
+use outcome::{Done, Estimates, Failure, Outcome, Planned, perform, plan_within};
 use std::process::Abort;
 use std::test::*;
-use task::{Done, Estimates, Failure, Outcome, Planned, Work, perform, plan_within};
-use text::{Expected, Kind, Misread, Request, Task, Word, parse, read_words};
+use text::{Action, Expected, Misread, Request, Word, read_words};
 use towers::PlainTower;
-use trays::Settable;
+use trays::{Kind, Settable};
 
 fn request(rt: &impl AllocGlobal, line: &str) -> Result<Request, Misread> {
-    parse(rt.alloc(), &read_words(rt.alloc(), line)?)
+    Request::parse(rt.alloc(), &read_words(rt.alloc(), line)?)
 }
 
 fn check_misread(
@@ -21,7 +21,7 @@ fn check_misread(
     match request(rt, line) {
         Ok(_) => Err(Fail::new("understood")),
         Err(m) => {
-            assert_eq!(rt; m, Misread::Unexpected(at, expected));
+            assert_eq!(rt; m, Misread::Unexpected { at, expected });
             Ok(())
         }
     }
@@ -60,14 +60,14 @@ fn numbers(rt: HostRuntime) -> Result<(), Fail> {
 }
 
 fn check_turns(rt: &impl Abort, q: &Request, turns: &[u8]) -> Result<(), Fail> {
-    match &q.task {
-        Task::Turns(asked) => {
+    match &q.action {
+        Action::Turns(asked) => {
             assert_eq!(rt; asked.as_slice(), turns);
             Ok(())
         }
-        Task::Dual => Err(Fail::new("the dual")),
-        Task::Estimate => Err(Fail::new("an estimate")),
-        Task::Plan { .. } => Err(Fail::new("a plan")),
+        Action::Dual => Err(Fail::new("the dual")),
+        Action::Estimate => Err(Fail::new("an estimate")),
+        Action::Plan { .. } => Err(Fail::new("a plan")),
     }
 }
 
@@ -93,7 +93,7 @@ fn sided_and_ring_requests(rt: HostRuntime) -> Result<(), Fail> {
     assert_eq!(rt; q.kind, Kind::Sided);
     assert_eq!(rt; q.trays.as_slice(), [129, 2, 128, 255].as_slice());
     assert_eq!(rt; q.span, None);
-    assert!(rt; matches!(q.task, Task::Dual));
+    assert!(rt; matches!(q.action, Action::Dual));
     let q = request(&rt, "ring 1 2 3 count 3 span 2 turns 0 1")?;
     assert_eq!(rt; q.kind, Kind::Ring);
     assert_eq!(rt; q.count, Some(3));
@@ -109,13 +109,13 @@ fn sided_and_ring_requests(rt: HostRuntime) -> Result<(), Fail> {
 fn estimate_requests(rt: HostRuntime) -> Result<(), Fail> {
     let q = request(&rt, "plain 2 3 1 estimate")?;
     assert_eq!(rt; q.trays.as_slice(), [2, 3, 1].as_slice());
-    assert!(rt; matches!(q.task, Task::Estimate));
+    assert!(rt; matches!(q.action, Action::Estimate));
     let q = request(&rt, "sided -1 2 count 2 estimate")?;
     assert_eq!(rt; q.count, Some(2));
-    assert!(rt; matches!(q.task, Task::Estimate));
+    assert!(rt; matches!(q.action, Action::Estimate));
     let q = request(&rt, "ring 1 2 3 4 span 3 estimate")?;
     assert_eq!(rt; q.span, Some(3));
-    assert!(rt; matches!(q.task, Task::Estimate));
+    assert!(rt; matches!(q.action, Action::Estimate));
     Ok(())
 }
 
@@ -126,10 +126,10 @@ fn check_plan(
     looks: u32,
 ) -> Result<(), Fail> {
     let q = request(rt, line)?;
-    let Task::Plan {
+    let Action::Plan {
         limit: limit_read,
         looks: looks_read,
-    } = q.task
+    } = q.action
     else {
         return Err(Fail::new("no plan"));
     };
@@ -174,7 +174,7 @@ fn misreads(rt: HostRuntime) -> Result<(), Fail> {
     check_misread(&rt, "sided 1 -128 turns", 2, Expected::Tray)?;
     check_misread(&rt, "plain count count", 2, Expected::CountNumber)?;
     check_misread(&rt, "sided 1 count -1", 3, Expected::CountNumber)?;
-    check_misread(&rt, "plain 1 count 1", 4, Expected::TaskWord)?;
+    check_misread(&rt, "plain 1 count 1", 4, Expected::ActionWord)?;
     check_misread(&rt, "plain 1 turns 2 plain", 4, Expected::Turn)?;
     check_misread(&rt, "plain 1 turns -1", 3, Expected::Turn)?;
     check_misread(&rt, "plain 1 dual 1", 3, Expected::End)?;
@@ -187,34 +187,34 @@ fn misreads(rt: HostRuntime) -> Result<(), Fail> {
 #[test]
 fn misread_spans(rt: HostRuntime) -> Result<(), Fail> {
     check_misread(&rt, "plain 1 span 1 turns", 2, Expected::Tray)?;
-    check_misread(&rt, "sided 1 count 1 span 1 dual", 4, Expected::TaskWord)?;
+    check_misread(&rt, "sided 1 count 1 span 1 dual", 4, Expected::ActionWord)?;
     check_misread(&rt, "ring 1 turns", 2, Expected::RingTray)?;
     check_misread(&rt, "ring 1 dual", 2, Expected::RingTray)?;
     check_misread(&rt, "ring 1 estimate", 2, Expected::RingTray)?;
     check_misread(&rt, "ring 1 count 1 turns", 4, Expected::SpanWord)?;
     check_misread(&rt, "ring 1 span turns", 3, Expected::SpanNumber)?;
-    check_misread(&rt, "ring 1 span 1 count 1 turns", 4, Expected::TaskWord)?;
-    check_misread(&rt, "ring 1 span 1", 4, Expected::TaskWord)
+    check_misread(&rt, "ring 1 span 1 count 1 turns", 4, Expected::ActionWord)?;
+    check_misread(&rt, "ring 1 span 1", 4, Expected::ActionWord)
 }
 
-fn check_told(rt: &(impl Abort + AllocGlobal), expected: Expected, told: &str) -> Result<(), Fail> {
-    assert_eq!(rt; format!(in rt.alloc(); "{expected}")?.as_str(), told);
+fn check_text(rt: &(impl Abort + AllocGlobal), expected: Expected, text: &str) -> Result<(), Fail> {
+    assert_eq!(rt; format!(in rt.alloc(); "{expected}")?.as_str(), text);
     Ok(())
 }
 
 #[test]
 fn what_is_expected(rt: HostRuntime) -> Result<(), Fail> {
-    check_told(
+    check_text(
         &rt,
         Expected::Tray,
         "a tray (as 3, or -3 in a sided tower), `count`, `turns`, `dual`, `estimate` or `plan`",
     )?;
-    check_told(
+    check_text(
         &rt,
-        Expected::TaskWord,
+        Expected::ActionWord,
         "`turns`, `dual`, `estimate` or `plan`",
     )?;
-    check_told(
+    check_text(
         &rt,
         Expected::LooksNumber,
         "the number of looks, from 1 to 2000000000",
@@ -237,23 +237,29 @@ fn check_failure(
 
 #[test]
 fn outcomes(rt: HostRuntime) -> Result<(), Fail> {
-    let Ok(Some(Outcome::Plain(work))) = perform(rt.alloc(), "plain 1 3 2 turns 2 3 2") else {
+    let Ok(Some(Outcome::Plain(completed))) = perform(rt.alloc(), "plain 1 3 2 turns 2 3 2") else {
         return Err(Fail::new("not done"));
     };
-    assert_eq!(rt; work.start.trays(), [1, 3, 2].as_slice());
-    let Done::Followed(_, trace) = &work.done else {
+    assert_eq!(rt; completed.start.trays(), [1, 3, 2].as_slice());
+    let Done::Followed { trace, .. } = &completed.done else {
         return Err(Fail::new("not followed"));
     };
     assert_eq!(rt; trace.ending, Ending::Home);
     check_failure(
         &rt,
         "plain 1 x turns",
-        Failure::Unexpected(2, Expected::Tray),
+        Failure::Unexpected {
+            at: 2,
+            expected: Expected::Tray,
+        },
     )?;
     check_failure(
         &rt,
         "plain 1 2 estimate 3",
-        Failure::Unexpected(4, Expected::End),
+        Failure::Unexpected {
+            at: 4,
+            expected: Expected::End,
+        },
     )?;
     assert!(rt; matches!(perform(rt.alloc(), "  "), Ok(None)));
     Ok(())
@@ -261,10 +267,10 @@ fn outcomes(rt: HostRuntime) -> Result<(), Fail> {
 
 #[test]
 fn duals_of_lines(rt: HostRuntime) -> Result<(), Fail> {
-    let Ok(Some(Outcome::Ring(work))) = perform(rt.alloc(), "ring 3 1 4 2 span 3 dual") else {
+    let Ok(Some(Outcome::Ring(completed))) = perform(rt.alloc(), "ring 3 1 4 2 span 3 dual") else {
         return Err(Fail::new("not done"));
     };
-    let Done::Mirrored(dual) = &work.done else {
+    let Done::Mirrored(dual) = &completed.done else {
         return Err(Fail::new("no dual"));
     };
     assert_eq!(rt; dual.trays(), [2, 4, 1, 3].as_slice());
@@ -273,10 +279,10 @@ fn duals_of_lines(rt: HostRuntime) -> Result<(), Fail> {
 }
 
 fn check_done<M>(rt: &impl Abort, done: &Done<M>, estimates: Estimates) -> Result<(), Fail> {
-    let Done::Estimated(told) = done else {
+    let Done::Estimated(numbers) = done else {
         return Err(Fail::new("no estimates"));
     };
-    assert_eq!(rt; *told, estimates);
+    assert_eq!(rt; *numbers, estimates);
     Ok(())
 }
 
@@ -287,43 +293,58 @@ fn check_estimates(
 ) -> Result<(), Fail> {
     match perform(rt.alloc(), line)? {
         None => Err(Fail::new("nothing asked")),
-        Some(Outcome::Plain(work)) => check_done(rt, &work.done, estimates),
-        Some(Outcome::Sided(work)) => check_done(rt, &work.done, estimates),
-        Some(Outcome::Ring(work)) => check_done(rt, &work.done, estimates),
+        Some(Outcome::Plain(completed)) => check_done(rt, &completed.done, estimates),
+        Some(Outcome::Sided(completed)) => check_done(rt, &completed.done, estimates),
+        Some(Outcome::Ring(completed)) => check_done(rt, &completed.done, estimates),
     }
 }
 
 #[test]
 fn estimates_of_lines(rt: HostRuntime) -> Result<(), Fail> {
-    check_estimates(&rt, "plain 1 3 2 estimate", told(2, 3, 3))?;
-    check_estimates(&rt, "sided -2 3 1 estimate", told(3, 3, 4))?;
-    check_estimates(&rt, "ring 2 3 4 1 span 2 estimate", told(0, 2, 2))
+    check_estimates(&rt, "plain 1 3 2 estimate", estimates(2, 3, 3))?;
+    check_estimates(&rt, "sided -2 3 1 estimate", estimates(3, 3, 4))?;
+    check_estimates(&rt, "ring 2 3 4 1 span 2 estimate", estimates(0, 2, 2))
 }
 
-// What came of the search that the task asks for, on the plain tower 1 3 2.
-fn planned(rt: &impl AllocGlobal, task: &str) -> Result<Planned<PlainTower>, Fail> {
-    let line = format!(in rt.alloc(); "plain 1 3 2 {task}")?;
-    let Ok(Some(Outcome::Plain(work))) = perform(rt.alloc(), &line) else {
+// What came of the search that is asked for, on the plain tower 1 3 2.
+fn planned(rt: &impl AllocGlobal, action: &str) -> Result<Planned<PlainTower>, Fail> {
+    let line = format!(in rt.alloc(); "plain 1 3 2 {action}")?;
+    let Ok(Some(Outcome::Plain(completed))) = perform(rt.alloc(), &line) else {
         return Err(Fail::new("not done"));
     };
-    match work.done {
-        Done::Planned(_, planned) => Ok(planned),
+    match completed.done {
+        Done::Planned { planned, .. } => Ok(planned),
         _ => Err(Fail::new("nothing planned")),
     }
 }
 
 #[test]
 fn plans_of_lines(rt: HostRuntime) -> Result<(), Fail> {
-    let Planned::Found(turns, trace, looks) = planned(&rt, "plan looks 4")? else {
+    let Planned::Found {
+        turns,
+        trace,
+        looks,
+    } = planned(&rt, "plan looks 4")?
+    else {
         return Err(Fail::new("no plan"));
     };
     assert_eq!(rt; turns.as_slice(), [2, 3, 2].as_slice());
     assert_eq!(rt; trace.ending, Ending::Home);
     assert_eq!(rt; looks, 4);
-    assert!(rt; matches!(planned(&rt, "plan looks 3")?, Planned::Unfinished(3)));
+    assert!(rt;
+        matches!(
+            planned(&rt, "plan looks 3")?,
+            Planned::Unfinished { looks: 3 }
+        )
+    );
     let cut = planned(&rt, "plan limit 3 looks 1")?;
-    assert!(rt; matches!(cut, Planned::Unfinished(1)));
-    assert!(rt; matches!(planned(&rt, "plan limit 2 looks 1")?, Planned::NoPlan(1)));
+    assert!(rt; matches!(cut, Planned::Unfinished { looks: 1 }));
+    assert!(rt;
+        matches!(
+            planned(&rt, "plan limit 2 looks 1")?,
+            Planned::NoPlan { looks: 1 }
+        )
+    );
     assert!(rt; matches!(planned(&rt, "plan limit 65 looks 1")?, Planned::Refused(_)));
     Ok(())
 }
@@ -332,9 +353,9 @@ fn plans_of_lines(rt: HostRuntime) -> Result<(), Fail> {
 #[test]
 fn looks_beyond_a_line(rt: HostRuntime) -> Result<(), Fail> {
     let none = plan_within(rt.alloc(), PlainTower::new(), Gaps, 64, 0)?;
-    assert!(rt; matches!(none, Planned::Unfinished(0)));
+    assert!(rt; matches!(none, Planned::Unfinished { looks: 0 }));
     let most = plan_within(rt.alloc(), PlainTower::new(), Gaps, 64, u32::MAX)?;
-    assert!(rt; matches!(most, Planned::Found(_, _, 1)));
+    assert!(rt; matches!(most, Planned::Found { looks: 1, .. }));
     Ok(())
 }
 
@@ -346,10 +367,10 @@ fn long_line(rt: HostRuntime) -> Result<(), Fail> {
     for _ in 0..301 {
         line.push_str(" 2")?;
     }
-    let Ok(Some(Outcome::Plain(work))) = perform(rt.alloc(), line.as_str()) else {
+    let Ok(Some(Outcome::Plain(completed))) = perform(rt.alloc(), line.as_str()) else {
         return Err(Fail::new("no tower"));
     };
-    let Done::Followed(turns, trace) = work.done else {
+    let Done::Followed { turns, trace } = completed.done else {
         return Err(Fail::new("no turns"));
     };
     assert_eq!(rt; turns.len(), 301);
@@ -364,7 +385,7 @@ fn plans_of_each_size(rt: HostRuntime) -> Result<(), Fail> {
         let mut tower: PlainTower = home(n, ())?;
         assert_eq!(rt; tower.turn(n), Ok(()));
         let planned = plan_within(rt.alloc(), tower, Gaps, 64, u32::MAX)?;
-        let Planned::Found(turns, trace, _) = planned else {
+        let Planned::Found { turns, trace, .. } = planned else {
             return Err(Fail::new("no plan"));
         };
         assert_eq!(rt; turns.as_slice(), [n].as_slice());
@@ -380,9 +401,9 @@ fn check_unset(
     kind: Kind,
     fault: Fault,
 ) -> Result<(), Fail> {
-    for task in ["turns", "dual", "estimate"] {
-        let line = format!(in rt.alloc(); "{setting} {task}")?;
-        check_failure(rt, &line, Failure::Refused(kind, fault))?;
+    for action in ["turns", "dual", "estimate"] {
+        let line = format!(in rt.alloc(); "{setting} {action}")?;
+        check_failure(rt, &line, Failure::Refused { kind, fault })?;
     }
     Ok(())
 }

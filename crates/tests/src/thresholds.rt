@@ -1,4 +1,4 @@
-use crate::given::{PILED, home, ring, tower};
+use crate::given::{LAYERED, home, ring, tower};
 use estimate::Estimate;
 use gaps::{Breakpoints, Gaps, HalfGaps};
 use machine::Machine;
@@ -30,8 +30,8 @@ fn check_first<M: Machine, E: Estimate<M>>(
 fn within_each_limit(rt: HostRuntime) -> Result<(), Fail> {
     let t = tower::<u8>(3, &[1, 3, 2])?;
     check_first(&rt, &t, &Gaps, 2);
-    check_first(&rt, &t, &PILED, 3);
-    check_first(&rt, &home::<PlainTower>(32, ())?, &PILED, 0);
+    check_first(&rt, &t, &LAYERED, 3);
+    check_first(&rt, &home::<PlainTower>(32, ())?, &LAYERED, 0);
     check_first(&rt, &tower::<SidedTray>(3, &[3, 129, 2])?, &Breakpoints, 3);
     check_first(&rt, &ring(4, 2, &[2, 1, 3, 4])?, &HalfGaps, 1);
     check_first(&rt, &home::<TrayRing>(32, 32)?, &HalfGaps, 0);

@@ -1,5 +1,5 @@
-pub mod Beginning
+pub mod ReadSoFar
 pub mod Unique
 pub mod Steps
 pub mod Walks
-pub mod Wording
+pub mod LineWords

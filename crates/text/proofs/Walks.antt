@@ -1,13 +1,15 @@
 use Rattle.std.proofs.Common.{◌≡◌, ℕ, ◌+◌, ◌<◌, ◌≤◌, Bool, true, false, if◌then◌else◌, nat_lt, List, [], ◌∷◌, ◌++◌, Some, None, Option, IsTrue, map, sym, refl, ap, subst, arith, append_assoc, append-nil}
 use Rattle.std.specs.Option.{unwrap_or}
-use Rattle.text.specs.declared.word.Kind.{Kind}
-use Rattle.text.specs.declared.word.Kind.TheVariants.{Plain, Sided, Ring}
+use Rattle.planner.specs.declared.planner.TheConstants.{HIGHEST_GRANT_SUM}
+use Rattle.search.specs.declared.limit.TheConstants.{HIGHEST_LIMIT}
+use Rattle.trays.specs.declared.kind.Kind.{Kind}
+use Rattle.trays.specs.declared.kind.Kind.TheVariants.{Plain, Sided, Ring}
 use Rattle.text.specs.declared.word.Word.{Word}
 use Rattle.text.specs.declared.word.Word.TheVariants as word
-use Rattle.text.specs.declared.request.Expected.{Expected}
-use Rattle.text.specs.declared.request.Expected.TheVariants as place
-use Rattle.text.specs.Lines.{Asked, turns, dual, estimate, plan, TrayWord, TrayWords, Line, HasSpan, count_words, span_words, limit_words, number_word, is_ring, may_stand}
-use Rattle.text.specs.Readers.{after_count, after_kind}
+use Rattle.text.specs.declared.expected.Expected.{Expected}
+use Rattle.text.specs.declared.expected.Expected.TheVariants as place
+use Rattle.text.specs.Expected.{after_count, after_kind, may_stand}
+use Rattle.text.specs.Lines.{Asked, turns, dual, estimate, plan, TrayWord, TrayWords, Line, HasSpan, count_words, span_words, limit_words, number_word, is_ring}
 
 -- A line is read word by word, and what has been read depends on the words alone.
 
@@ -18,10 +20,10 @@ pub record Reading : Type 0 where
   pub trays : List ℕ
   pub count : Option ℕ
   pub span : Option ℕ
-  pub task : Asked
+  pub action : Asked
 
 abbrev pub reading : Expected → Kind → List ℕ → Option ℕ → Option ℕ → Asked → Reading
-reading e kind trays count span task = record { expected = e; kind = kind; trays = trays; count = count; span = span; task = task }
+reading e kind trays count span action = record { expected = e; kind = kind; trays = trays; count = count; span = span; action = action }
 
 -- Before the first word, when the kind says nothing.
 abbrev pub start : Kind → Reading
@@ -29,21 +31,21 @@ start kind = reading place.Kind kind [] None None (turns [])
 
 abbrev with_turn : Asked → ℕ → Asked
 with_turn (turns ks) k = turns (ks ++ k ∷ [])
-with_turn task k = task
+with_turn action k = action
 
 abbrev with_looks : Asked → ℕ → Asked
 with_looks (plan limit looks) n = plan limit n
-with_looks task n = task
+with_looks action n = action
 
 -- A number has been read where this is expected.
 abbrev after_number : Expected → Reading → ℕ → Reading
 after_number place.Tray r n = record r { trays = r.trays ++ n ∷ [] }
 after_number place.RingTray r n = record r { trays = r.trays ++ n ∷ [] }
 after_number place.CountNumber r n = record r { expected = after_count r.kind; count = Some n }
-after_number place.SpanNumber r n = record r { expected = place.TaskWord; span = Some n }
-after_number place.Turn r n = record r { task = with_turn r.task n }
-after_number place.LimitNumber r n = record r { expected = place.LooksWord; task = plan n 2000000000 }
-after_number place.LooksNumber r n = record r { expected = place.End; task = with_looks r.task n }
+after_number place.SpanNumber r n = record r { expected = place.ActionWord; span = Some n }
+after_number place.Turn r n = record r { action = with_turn r.action n }
+after_number place.LimitNumber r n = record r { expected = place.LooksWord; action = plan n HIGHEST_GRANT_SUM }
+after_number place.LooksNumber r n = record r { expected = place.End; action = with_looks r.action n }
 after_number e r n = r
 
 -- One word more has been read.
@@ -52,13 +54,13 @@ after r (word.Kind kind) = record r { expected = after_kind kind; kind = kind }
 after r word.Count = record r { expected = place.CountNumber }
 after r word.Span = record r { expected = place.SpanNumber }
 after r word.Turns = record r { expected = place.Turn }
-after r word.Dual = record r { expected = place.End; task = dual }
-after r word.Estimate = record r { expected = place.End; task = estimate }
-after r word.Plan = record r { expected = place.LimitWord; task = plan 64 2000000000 }
+after r word.Dual = record r { expected = place.End; action = dual }
+after r word.Estimate = record r { expected = place.End; action = estimate }
+after r word.Plan = record r { expected = place.LimitWord; action = plan HIGHEST_LIMIT HIGHEST_GRANT_SUM }
 after r word.Limit = record r { expected = place.LimitNumber }
 after r word.Looks = record r { expected = place.LooksNumber }
 after r (word.Number n) = after_number r.expected r n
-after r (word.Large n) = record r { expected = place.End; task = with_looks r.task n }
+after r (word.Large n) = record r { expected = place.End; action = with_looks r.action n }
 after r (word.Away n) = record r { trays = r.trays ++ (128 + n) ∷ [] }
 after r word.Other = r
 
@@ -100,19 +102,19 @@ walks_trays kind ts before trays h = absurd h
 
 -- the kind, the trays, the count and the span
 abbrev after_span : Kind → Option ℕ → Option ℕ → Expected
-after_span kind count (Some n) = place.TaskWord
+after_span kind count (Some n) = place.ActionWord
 after_span kind (Some m) None = after_count kind
 after_span kind None None = after_kind kind
 
-abbrev before_task : Kind → List ℕ → Option ℕ → Option ℕ → Reading
-before_task kind trays count span = reading (after_span kind count span) kind trays count span (turns [])
+abbrev before_action : Kind → List ℕ → Option ℕ → Option ℕ → Reading
+before_action kind trays count span = reading (after_span kind count span) kind trays count span (turns [])
 
 -- where a span is given, this is a ring
 abbrev SpanFits : Kind → Option ℕ → Type 0
 SpanFits kind None = Unit {0}
 SpanFits kind (Some n) = IsTrue (is_ring kind)
 
-walks_count : (kind : Kind) (trays : List ℕ) (count span : Option ℕ) (rest : List Word) (t : Reading) → SpanFits kind span → Walks (before_task kind trays count span) rest t → Walks (in_trays kind trays) (count_words count ++ (span_words span ++ rest)) t
+walks_count : (kind : Kind) (trays : List ℕ) (count span : Option ℕ) (rest : List Word) (t : Reading) → SpanFits kind span → Walks (before_action kind trays count span) rest t → Walks (in_trays kind trays) (count_words count ++ (span_words span ++ rest)) t
 walks_count kind trays None None rest t fits h = h
 walks_count Plain trays (Some n) None rest t fits h = (refl, (refl, h))
 walks_count Sided trays (Some n) None rest t fits h = (refl, (refl, h))
@@ -121,53 +123,53 @@ walks_count Ring trays None (Some m) rest t fits h = (refl, (refl, h))
 walks_count Ring trays (Some n) (Some m) rest t fits h = (refl, (refl, (refl, (refl, h))))
 walks_count kind trays count span rest t fits h = absurd (grind arith)
 
-pub walks_line : (ws : List Word) (kind : Kind) (trays : List ℕ) (count span : Option ℕ) (rest : List Word) (t : Reading) → SpanFits kind span → Line ws kind trays count span rest → Walks (before_task kind trays count span) rest t → Walks (start kind) ws t
+pub walks_line : (ws : List Word) (kind : Kind) (trays : List ℕ) (count span : Option ℕ) (rest : List Word) (t : Reading) → SpanFits kind span → Line ws kind trays count span rest → Walks (before_action kind trays count span) rest t → Walks (start kind) ws t
 walks_line ws kind trays count span rest t fits line h =
     subst
     (λ (l : List Word). Walks (start kind) l t)
     (sym line.2)
     (refl, walks_append (in_trays kind []) (in_trays kind trays) t line.0 (count_words count ++ (span_words span ++ rest)) (walks_trays kind line.0 [] trays line.1) (walks_count kind trays count span rest t fits h))
 
--- the task
+-- the action
 pub has_span_fits : (kind : Kind) (span : Option ℕ) → HasSpan kind span → SpanFits kind span
 has_span_fits kind None h = tt
 has_span_fits kind (Some n) h = sym h
 
-tray_task : (w : Word) → IsTrue (may_stand place.TaskWord w) → IsTrue (may_stand place.Tray w)
-tray_task word.Turns h = refl
-tray_task word.Dual h = refl
-tray_task word.Estimate h = refl
-tray_task word.Plan h = refl
-tray_task w h = absurd (grind arith)
+tray_action : (w : Word) → IsTrue (may_stand place.ActionWord w) → IsTrue (may_stand place.Tray w)
+tray_action word.Turns h = refl
+tray_action word.Dual h = refl
+tray_action word.Estimate h = refl
+tray_action word.Plan h = refl
+tray_action w h = absurd (grind arith)
 
-task_stands : (kind : Kind) (count span : Option ℕ) (w : Word) → HasSpan kind span → IsTrue (may_stand place.TaskWord w) → IsTrue (may_stand (after_span kind count span) w)
-task_stands kind count (Some n) w has h = h
-task_stands Plain None None w has h = tray_task w h
-task_stands Sided None None w has h = tray_task w h
-task_stands Plain (Some n) None w has h = h
-task_stands Sided (Some n) None w has h = h
-task_stands kind count span w has h = absurd (grind arith)
+action_stands : (kind : Kind) (count span : Option ℕ) (w : Word) → HasSpan kind span → IsTrue (may_stand place.ActionWord w) → IsTrue (may_stand (after_span kind count span) w)
+action_stands kind count (Some n) w has h = h
+action_stands Plain None None w has h = tray_action w h
+action_stands Sided None None w has h = tray_action w h
+action_stands Plain (Some n) None w has h = h
+action_stands Sided (Some n) None w has h = h
+action_stands kind count span w has h = absurd (grind arith)
 
--- a line whose task begins with this word
-pub walks_task : (ws : List Word) (kind : Kind) (trays : List ℕ) (count span : Option ℕ) (w : Word) (rest : List Word) (t : Reading) → HasSpan kind span → Line ws kind trays count span (w ∷ rest) → IsTrue (may_stand place.TaskWord w) → Walks (after (before_task kind trays count span) w) rest t → Walks (start kind) ws t
-walks_task ws kind trays count span w rest t has line may h =
-    walks_line ws kind trays count span (w ∷ rest) t (has_span_fits kind span has) line (task_stands kind count span w has may, h)
+-- a line whose action begins with this word
+pub walks_action : (ws : List Word) (kind : Kind) (trays : List ℕ) (count span : Option ℕ) (w : Word) (rest : List Word) (t : Reading) → HasSpan kind span → Line ws kind trays count span (w ∷ rest) → IsTrue (may_stand place.ActionWord w) → Walks (after (before_action kind trays count span) w) rest t → Walks (start kind) ws t
+walks_action ws kind trays count span w rest t has line may h =
+    walks_line ws kind trays count span (w ∷ rest) t (has_span_fits kind span has) line (action_stands kind count span w has may, h)
 
 pub walks_turns : (kind : Kind) (trays : List ℕ) (count span : Option ℕ) (before ks : List ℕ) → Walks (reading place.Turn kind trays count span (turns before)) (map word.Number ks) (reading place.Turn kind trays count span (turns (before ++ ks)))
 walks_turns kind trays count span before [] = ap (λ (l : List ℕ). reading place.Turn kind trays count span (turns l)) (sym (append-nil before))
 walks_turns kind trays count span before (k ∷ ks) =
     (refl, subst (λ (l : List ℕ). Walks (reading place.Turn kind trays count span (turns (before ++ k ∷ []))) (map word.Number ks) (reading place.Turn kind trays count span (turns l))) (append_assoc before (k ∷ []) ks) (walks_turns kind trays count span (before ++ k ∷ []) ks))
 
-looks_read : (b : Bool) (kind : Kind) (trays : List ℕ) (count span : Option ℕ) (limit looks : ℕ) → b ≡ nat_lt looks 256 → 0 < looks → looks ≤ 2000000000 → Walks (reading place.LooksNumber kind trays count span (plan limit 2000000000)) ((if b then word.Number looks else word.Large looks) ∷ []) (reading place.End kind trays count span (plan limit looks))
+looks_read : (b : Bool) (kind : Kind) (trays : List ℕ) (count span : Option ℕ) (limit looks : ℕ) → b ≡ nat_lt looks 256 → 0 < looks → looks ≤ HIGHEST_GRANT_SUM → Walks (reading place.LooksNumber kind trays count span (plan limit HIGHEST_GRANT_SUM)) ((if b then word.Number looks else word.Large looks) ∷ []) (reading place.End kind trays count span (plan limit looks))
 looks_read true kind trays count span limit looks is least most = (grind arith, refl)
 looks_read false kind trays count span limit looks is least most = (grind arith, refl)
 
-walks_looks : (kind : Kind) (trays : List ℕ) (count span : Option ℕ) (limit looks : ℕ) → 0 < looks → looks ≤ 2000000000 → Walks (reading place.LooksNumber kind trays count span (plan limit 2000000000)) (number_word looks ∷ []) (reading place.End kind trays count span (plan limit looks))
+walks_looks : (kind : Kind) (trays : List ℕ) (count span : Option ℕ) (limit looks : ℕ) → 0 < looks → looks ≤ HIGHEST_GRANT_SUM → Walks (reading place.LooksNumber kind trays count span (plan limit HIGHEST_GRANT_SUM)) (number_word looks ∷ []) (reading place.End kind trays count span (plan limit looks))
 walks_looks kind trays count span limit looks least most = looks_read (nat_lt looks 256) kind trays count span limit looks refl least most
 
 -- the end of the line, after a plan with its looks
-pub walks_plan : (kind : Kind) (trays : List ℕ) (count span l : Option ℕ) (limit looks : ℕ) → limit ≡ unwrap_or l 64 → 0 < looks → looks ≤ 2000000000 → Walks (reading place.LimitWord kind trays count span (plan 64 2000000000)) (limit_words l ++ word.Looks ∷ number_word looks ∷ []) (reading place.End kind trays count span (plan limit looks))
+pub walks_plan : (kind : Kind) (trays : List ℕ) (count span l : Option ℕ) (limit looks : ℕ) → limit ≡ unwrap_or l HIGHEST_LIMIT → 0 < looks → looks ≤ HIGHEST_GRANT_SUM → Walks (reading place.LimitWord kind trays count span (plan HIGHEST_LIMIT HIGHEST_GRANT_SUM)) (limit_words l ++ word.Looks ∷ number_word looks ∷ []) (reading place.End kind trays count span (plan limit looks))
 walks_plan kind trays count span None limit looks is least most =
-    (refl, subst (λ (n : ℕ). Walks (reading place.LooksNumber kind trays count span (plan 64 2000000000)) (number_word looks ∷ []) (reading place.End kind trays count span (plan n looks))) (sym is) (walks_looks kind trays count span 64 looks least most))
+    (refl, subst (λ (n : ℕ). Walks (reading place.LooksNumber kind trays count span (plan HIGHEST_LIMIT HIGHEST_GRANT_SUM)) (number_word looks ∷ []) (reading place.End kind trays count span (plan n looks))) (sym is) (walks_looks kind trays count span HIGHEST_LIMIT looks least most))
 walks_plan kind trays count span (Some n) limit looks is least most =
-    (refl, (refl, (refl, subst (λ (m : ℕ). Walks (reading place.LooksNumber kind trays count span (plan n 2000000000)) (number_word looks ∷ []) (reading place.End kind trays count span (plan m looks))) (sym is) (walks_looks kind trays count span n looks least most))))
+    (refl, (refl, (refl, subst (λ (m : ℕ). Walks (reading place.LooksNumber kind trays count span (plan n HIGHEST_GRANT_SUM)) (number_word looks ∷ []) (reading place.End kind trays count span (plan m looks))) (sym is) (walks_looks kind trays count span n looks least most))))

@@ -1,5 +1,5 @@
-pub mod Words
+pub mod Expected
 pub mod Lines
 pub mod Readers
 pub mod TrayCounts
-pub mod Texts
+pub mod Words

@@ -1,15 +1,18 @@
-use Rattle.std.specs.Prelude.{◌≡◌, ℕ, ◌+◌, ◌<◌, ◌≤◌, Bool, true, false, ◌&&◌, ◌||◌, ◌⊎◌, if◌then◌else◌, List, [], ◌∷◌, ◌++◌, map, length, take, is_some, Some, None, vec_items, Option, nat_le, nat_lt, slice_index_or, IsFalse, IsSome, IsTrue, ⊤}
+use Rattle.std.specs.Prelude.{◌≡◌, ℕ, ◌+◌, ◌<◌, ◌≤◌, Bool, true, false, ◌||◌, ◌⊎◌, if◌then◌else◌, List, [], ◌∷◌, ◌++◌, map, length, take, is_some, Some, None, vec_items, Option, nat_lt, slice_index_or, IsFalse, IsSome, IsTrue, ⊤}
 use Rattle.std.specs.Option.{unwrap_or}
-use Rattle.text.specs.declared.word.Kind.{Kind}
-use Rattle.text.specs.declared.word.Kind.TheVariants.{Ring}
+use Rattle.planner.specs.declared.planner.TheConstants.{HIGHEST_GRANT_SUM}
+use Rattle.search.specs.declared.limit.TheConstants.{HIGHEST_LIMIT}
+use Rattle.trays.specs.declared.kind.Kind.{Kind}
+use Rattle.trays.specs.declared.kind.Kind.TheVariants.{Ring}
 use Rattle.text.specs.declared.word.Word.{Word}
 use Rattle.text.specs.declared.word.Word.TheVariants.{Kind as Machine, Count, Span, Turns, Dual, Estimate, Plan, Limit, Looks, Number, Large, Away, Other}
-use Rattle.text.specs.declared.request.Task.{Task}
-use Rattle.text.specs.declared.request.Task.TheVariants as task
-use Rattle.text.specs.declared.request.Expected.{Expected}
-use Rattle.text.specs.declared.request.Expected.TheVariants as place
-use Rattle.text.specs.declared.request.Misread.{Misread}
-use Rattle.text.specs.declared.request.Misread.TheVariants.{Unexpected, NoMemory}
+use Rattle.text.specs.declared.action.Action.{Action}
+use Rattle.text.specs.declared.action.Action.TheVariants as action
+use Rattle.text.specs.declared.expected.Expected.{Expected}
+use Rattle.text.specs.declared.expected.Expected.TheVariants as place
+use Rattle.text.specs.declared.misread.Misread.{Misread}
+use Rattle.text.specs.declared.misread.Misread.TheVariants.{Unexpected, NoMemory}
+use Rattle.text.specs.Expected.{is_listed, may_end, may_stand}
 
 -- The word writes this tray: a number is the byte itself, and n after a minus sign, where it is below 128, is the byte 128 + n.
 abbrev pub TrayWord : Word → ℕ → Type 0
@@ -54,30 +57,30 @@ pub data Asked : Type 0 where
   estimate : Asked
   plan : ℕ → ℕ → Asked
 
--- The words ask for a plan, and give this limit and these looks. A limit that is not given is 64, and looks that are not given are 2,000,000,000; no more may be given, and not 0.
+-- The words ask for a plan, and give this limit and these looks. A limit that is not given is the highest, and looks that are not given are the most that a planner makes; no more may be given, and not 0.
 abbrev pub PlanWords : Option ℕ → Option ℕ → ℕ → ℕ → List Word → Type 0
 PlanWords l b limit looks ws =
-    (ws ≡ Plan ∷ (limit_words l ++ looks_words b)) × (limit ≡ unwrap_or l 64) × (looks ≡ unwrap_or b 2000000000) × (0 < looks) × (looks ≤ 2000000000)
+    (ws ≡ Plan ∷ (limit_words l ++ looks_words b)) × (limit ≡ unwrap_or l HIGHEST_LIMIT) × (looks ≡ unwrap_or b HIGHEST_GRANT_SUM) × (0 < looks) × (looks ≤ HIGHEST_GRANT_SUM)
 
--- The words write this task.
-abbrev pub TaskWords : Asked → List Word → Type 0
-TaskWords (turns ks) ws = ws ≡ Turns ∷ map Number ks
-TaskWords dual ws = ws ≡ Dual ∷ []
-TaskWords estimate ws = ws ≡ Estimate ∷ []
-TaskWords (plan limit looks) ws = (l : Option ℕ) × (b : Option ℕ) × PlanWords l b limit looks ws
+-- The words write this action.
+abbrev pub ActionWords : Asked → List Word → Type 0
+ActionWords (turns ks) ws = ws ≡ Turns ∷ map Number ks
+ActionWords dual ws = ws ≡ Dual ∷ []
+ActionWords estimate ws = ws ≡ Estimate ∷ []
+ActionWords (plan limit looks) ws = (l : Option ℕ) × (b : Option ℕ) × PlanWords l b limit looks ws
 
--- The words write this task, and no word may follow.
+-- The words write this action, and no word may follow.
 abbrev pub LastWords : Asked → List Word → Type 0
 LastWords (turns ks) ws = ⊥
 LastWords (plan limit looks) ws = (l : Option ℕ) × PlanWords l (Some looks) limit looks ws
-LastWords task ws = TaskWords task ws
+LastWords action ws = ActionWords action ws
 
--- The task of a request.
-abbrev pub asked : Task → Asked
-asked (task.Turns ks) = turns (vec_items ks)
-asked task.Dual = dual
-asked task.Estimate = estimate
-asked (task.Plan limit looks) = plan limit looks
+-- The action of a request.
+abbrev pub asked : Action → Asked
+asked (action.Turns ks) = turns (vec_items ks)
+asked action.Dual = dual
+asked action.Estimate = estimate
+asked (action.Plan limit looks) = plan limit looks
 
 abbrev pub is_ring : Kind → Bool
 is_ring Ring = true
@@ -94,61 +97,23 @@ Line ws kind trays count span rest =
 
 -- The words ws are a line that asks this.
 abbrev pub Written : List Word → Kind → List ℕ → Option ℕ → Option ℕ → Asked → Type 0
-Written ws kind trays count span task = HasSpan kind span × ((rest : List Word) × TaskWords task rest × Line ws kind trays count span rest)
+Written ws kind trays count span action = HasSpan kind span × ((rest : List Word) × ActionWords action rest × Line ws kind trays count span rest)
 
--- What may stand where this is expected. No line has a number above 127 after a minus sign, nor a large number below 256, so none may stand anywhere.
-abbrev pub may_stand : Expected → Word → Bool
-may_stand place.Kind (Machine kind) = true
-may_stand place.Tray (Number n) = true
-may_stand place.Tray (Away n) = nat_lt n 128
-may_stand place.Tray Count = true
-may_stand place.Tray Turns = true
-may_stand place.Tray Dual = true
-may_stand place.Tray Estimate = true
-may_stand place.Tray Plan = true
-may_stand place.RingTray (Number n) = true
-may_stand place.RingTray (Away n) = nat_lt n 128
-may_stand place.RingTray Count = true
-may_stand place.RingTray Span = true
-may_stand place.CountNumber (Number n) = true
-may_stand place.SpanWord Span = true
-may_stand place.SpanNumber (Number n) = true
-may_stand place.TaskWord Turns = true
-may_stand place.TaskWord Dual = true
-may_stand place.TaskWord Estimate = true
-may_stand place.TaskWord Plan = true
-may_stand place.Turn (Number n) = true
-may_stand place.LimitWord Limit = true
-may_stand place.LimitWord Looks = true
-may_stand place.LimitNumber (Number n) = true
-may_stand place.LooksWord Looks = true
-may_stand place.LooksNumber (Number n) = nat_le 1 n
-may_stand place.LooksNumber (Large n) = nat_le 256 n && nat_le n 2000000000
-may_stand e w = false
-
--- Whether the line may end where this is expected.
-abbrev pub may_end : Expected → Bool
-may_end place.Turn = true
-may_end place.LimitWord = true
-may_end place.LooksWord = true
-may_end place.End = true
-may_end e = false
-
--- The words ws begin a line, with this kind, these trays, this count, this span and this task, and this is expected next. Before its word is read, the task is to make no turns; a limit and looks that are not read are as if the line gave none.
+-- The words ws begin a line, with this kind, these trays, this count, this span and this action, and this is expected next. Before its word is read, the action is to make no turns; a limit and looks that are not read are as if the line gave none.
 abbrev pub Begun : Expected → Kind → List ℕ → Option ℕ → Option ℕ → Asked → List Word → Type 0
-Begun place.Kind kind trays count span task ws = (trays ≡ []) × (count ≡ None) × (span ≡ None) × (task ≡ turns []) × (ws ≡ [])
-Begun place.Tray kind trays count span task ws = IsFalse (is_ring kind) × (count ≡ None) × (span ≡ None) × (task ≡ turns []) × Line ws kind trays None None []
-Begun place.RingTray kind trays count span task ws = IsTrue (is_ring kind) × (count ≡ None) × (span ≡ None) × (task ≡ turns []) × Line ws kind trays None None []
-Begun place.CountNumber kind trays count span task ws = (count ≡ None) × (span ≡ None) × (task ≡ turns []) × Line ws kind trays None None (Count ∷ [])
-Begun place.SpanWord kind trays count span task ws = IsTrue (is_ring kind) × IsSome count × (span ≡ None) × (task ≡ turns []) × Line ws kind trays count None []
-Begun place.SpanNumber kind trays count span task ws = IsTrue (is_ring kind) × (span ≡ None) × (task ≡ turns []) × Line ws kind trays count None (Span ∷ [])
-Begun place.TaskWord kind trays count span task ws = HasSpan kind span × IsTrue (is_some span || is_some count) × (task ≡ turns []) × Line ws kind trays count span []
-Begun place.Turn kind trays count span task ws = HasSpan kind span × ((ks : List ℕ) × (task ≡ turns ks) × Line ws kind trays count span (Turns ∷ map Number ks))
-Begun place.LimitWord kind trays count span task ws = HasSpan kind span × (task ≡ plan 64 2000000000) × Line ws kind trays count span (Plan ∷ [])
-Begun place.LimitNumber kind trays count span task ws = HasSpan kind span × (task ≡ plan 64 2000000000) × Line ws kind trays count span (Plan ∷ Limit ∷ [])
-Begun place.LooksWord kind trays count span task ws = HasSpan kind span × ((l : ℕ) × (task ≡ plan l 2000000000) × Line ws kind trays count span (Plan ∷ limit_words (Some l)))
-Begun place.LooksNumber kind trays count span task ws = HasSpan kind span × ((l : Option ℕ) × (task ≡ plan (unwrap_or l 64) 2000000000) × Line ws kind trays count span (Plan ∷ (limit_words l ++ Looks ∷ [])))
-Begun place.End kind trays count span task ws = HasSpan kind span × ((rest : List Word) × LastWords task rest × Line ws kind trays count span rest)
+Begun place.Kind kind trays count span action ws = (trays ≡ []) × (count ≡ None) × (span ≡ None) × (action ≡ turns []) × (ws ≡ [])
+Begun place.Tray kind trays count span action ws = IsFalse (is_ring kind) × (count ≡ None) × (span ≡ None) × (action ≡ turns []) × Line ws kind trays None None []
+Begun place.RingTray kind trays count span action ws = IsTrue (is_ring kind) × (count ≡ None) × (span ≡ None) × (action ≡ turns []) × Line ws kind trays None None []
+Begun place.CountNumber kind trays count span action ws = (count ≡ None) × (span ≡ None) × (action ≡ turns []) × Line ws kind trays None None (Count ∷ [])
+Begun place.SpanWord kind trays count span action ws = IsTrue (is_ring kind) × IsSome count × (span ≡ None) × (action ≡ turns []) × Line ws kind trays count None []
+Begun place.SpanNumber kind trays count span action ws = IsTrue (is_ring kind) × (span ≡ None) × (action ≡ turns []) × Line ws kind trays count None (Span ∷ [])
+Begun place.ActionWord kind trays count span action ws = HasSpan kind span × IsTrue (is_some span || is_some count) × (action ≡ turns []) × Line ws kind trays count span []
+Begun place.Turn kind trays count span action ws = HasSpan kind span × ((ks : List ℕ) × (action ≡ turns ks) × Line ws kind trays count span (Turns ∷ map Number ks))
+Begun place.LimitWord kind trays count span action ws = HasSpan kind span × (action ≡ plan HIGHEST_LIMIT HIGHEST_GRANT_SUM) × Line ws kind trays count span (Plan ∷ [])
+Begun place.LimitNumber kind trays count span action ws = HasSpan kind span × (action ≡ plan HIGHEST_LIMIT HIGHEST_GRANT_SUM) × Line ws kind trays count span (Plan ∷ Limit ∷ [])
+Begun place.LooksWord kind trays count span action ws = HasSpan kind span × ((l : ℕ) × (action ≡ plan l HIGHEST_GRANT_SUM) × Line ws kind trays count span (Plan ∷ limit_words (Some l)))
+Begun place.LooksNumber kind trays count span action ws = HasSpan kind span × ((l : Option ℕ) × (action ≡ plan (unwrap_or l HIGHEST_LIMIT) HIGHEST_GRANT_SUM) × Line ws kind trays count span (Plan ∷ (limit_words l ++ Looks ∷ [])))
+Begun place.End kind trays count span action ws = HasSpan kind span × ((rest : List Word) × LastWords action rest × Line ws kind trays count span rest)
 
 -- The words before `at` begin a line, and this is expected next.
 pub record Reached (ws : List Word) (at : ℕ) (expected : Expected) : Type 0 where
@@ -156,22 +121,13 @@ pub record Reached (ws : List Word) (at : ℕ) (expected : Expected) : Type 0 wh
   pub trays : List ℕ
   pub count : Option ℕ
   pub span : Option ℕ
-  pub task : Asked
-  pub begun : Begun expected kind trays count span task (take at ws)
+  pub action : Asked
+  pub begun : Begun expected kind trays count span action (take at ws)
 
 -- The words before `at` begin a line, and what stands at `at` may not stand there, or the line ends there and may not.
 pub record Stuck (ws : List Word) (at : ℕ) (expected : Expected) : Type 0 where
   pub reached : Reached ws at expected
   pub wrong : ((at < length ws) × IsFalse (may_stand expected (slice_index_or ws at Other))) ⊎ ((at ≡ length ws) × IsFalse (may_end expected))
-
--- Whether the word is a tray or a turn that may stand where this is expected. These are kept in lists, and all else needs no memory.
-abbrev pub is_listed : Expected → Word → Bool
-is_listed place.Tray (Number n) = true
-is_listed place.Tray (Away n) = nat_lt n 128
-is_listed place.RingTray (Number n) = true
-is_listed place.RingTray (Away n) = nat_lt n 128
-is_listed place.Turn (Number n) = true
-is_listed e w = false
 
 -- The words before `at` begin a line, and what stands at `at` is a tray or a turn that may stand there.
 pub record Unkept (ws : List Word) : Type 0 where
@@ -187,11 +143,11 @@ Misreads ws NoMemory = Unkept ws
 
 -- No line is both understood and not.
 abbrev pub OneReading : Type 0
-OneReading = (ws : List Word) (at : ℕ) (expected : Expected) → Stuck ws at expected → (kind : Kind) (trays : List ℕ) (count span : Option ℕ) (task : Asked) → Written ws kind trays count span task → ⊥
+OneReading = (ws : List Word) (at : ℕ) (expected : Expected) → Stuck ws at expected → (kind : Kind) (trays : List ℕ) (count span : Option ℕ) (action : Asked) → Written ws kind trays count span action → ⊥
 
 -- What is understood asks one thing.
 abbrev pub OneRequest : Type 0
-OneRequest = (ws : List Word) (kind kind' : Kind) (trays trays' : List ℕ) (count count' span span' : Option ℕ) (task task' : Asked) → Written ws kind trays count span task → Written ws kind' trays' count' span' task' → (kind ≡ kind') × (trays ≡ trays') × (count ≡ count') × (span ≡ span') × (task ≡ task')
+OneRequest = (ws : List Word) (kind kind' : Kind) (trays trays' : List ℕ) (count count' span span' : Option ℕ) (action action' : Asked) → Written ws kind trays count span action → Written ws kind' trays' count' span' action' → (kind ≡ kind') × (trays ≡ trays') × (count ≡ count') × (span ≡ span') × (action ≡ action')
 
 -- What is not understood has one place where it is wrong.
 abbrev pub OneFault : Type 0

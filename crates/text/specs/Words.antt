@@ -2,8 +2,8 @@ use Rattle.std.specs.Prelude.{◌≡◌, ℕ, ◌<◌, ◌≤◌, List, [], ◌�
 use Rattle.std.specs.Str.Parse.{IsNumeral, without_leading_plus, digits_value}
 use Rattle.std.specs.Char.{is_whitespace, is_not_whitespace}
 use Rattle.std.specs.Str.{NoCharPasses, EmptyOrStartsWithPassing}
-use Rattle.text.specs.declared.word.Kind.{Kind}
-use Rattle.text.specs.declared.word.Kind.TheVariants.{Plain, Sided, Ring}
+use Rattle.trays.specs.Kinds.{kind_name}
+use Rattle.trays.specs.declared.kind.Kind.TheVariants.{Plain, Sided, Ring}
 use Rattle.text.specs.declared.word.Word.{Word}
 use Rattle.text.specs.declared.word.Word.TheVariants.{Kind as Machine, Count, Span, Turns, Dual, Estimate, Plan, Limit, Looks, Number, Large, Away, Other}
 
@@ -18,12 +18,6 @@ IsUnsigned bs n = IsNumeral 10 bs × (digits_value 10 bs ≡ n)
 -- a minus sign, the byte 45, and right after it decimal digits that write n, a number from 0 to 127
 abbrev pub IsAway : List ℕ → ℕ → Type 0
 IsAway bs n = (ds : List ℕ) × (bs ≡ 45 ∷ ds) × IsUnsigned ds n × (n < 128)
-
--- the name of a kind of machine
-abbrev pub kind_name : Kind → List ℕ
-kind_name Plain = codes "plain"
-kind_name Sided = codes "sided"
-kind_name Ring = codes "ring"
 
 -- the text bs means this word
 abbrev pub Spells : List ℕ → Word → Type 0
@@ -67,3 +61,7 @@ pub record Cut (bs piece rest : List ℕ) : Type 0 where
 abbrev pub Words : List ℕ → List Word → Type 0
 Words bs [] = NoCharPasses is_not_whitespace bs
 Words bs (w ∷ ws) = (piece : List ℕ) × (rest : List ℕ) × Cut bs piece rest × Spells piece w × Words rest ws
+
+-- the line has a word
+abbrev pub HasWord : List ℕ → Type 0
+HasWord bs = (piece : List ℕ) × (rest : List ℕ) × Cut bs piece rest

@@ -1,41 +1,48 @@
 ghost use Rattle.std.specs.Prelude.{◌≡◌, ◌≤◌, List, [], IfErr, IsTrue, OnOk};
-ghost use Rattle.text.specs.declared.request.Expected.TheVariants.{End, LimitNumber, LooksNumber, Turn};
+ghost use Rattle.planner.specs.declared.planner.TheConstants.{HIGHEST_GRANT_SUM};
+ghost use Rattle.text.specs.declared.expected.Expected.TheVariants.{End, LimitNumber, LooksNumber, Turn};
 ghost use Rattle.text.specs.declared.word.Word.TheVariants.{Away, Number};
-ghost use Rattle.text.specs.Lines.{Misreads, is_listed, may_end, may_stand, number_word};
-ghost use Rattle.text.specs.Readers.{Asks, Begins, IsRead, Refuses, Stepped, after_count, after_kind};
+ghost use Rattle.text.specs.Expected.{is_listed, may_end, may_stand};
+ghost use Rattle.text.specs.Lines.{Misreads, number_word};
+ghost use Rattle.text.specs.Readers.{Asks, HasRead, IsRead, Refuses, Stepped};
 
-use crate::request::{DEFAULT_LIMIT, Expected, MOST_LOOKS, Misread, Request, Task};
-use crate::word::{Kind, Word};
+use crate::action::Action;
+use crate::expected::Expected;
+use crate::misread::Misread;
+use crate::request::Request;
+use crate::word::Word;
+use planner::{HIGHEST_GRANT_SUM, HIGHEST_LIMIT};
 use std::alloc::{AllocError, Global};
+use trays::Kind;
 
-// A line half read: what has been read, and what is expected next. Before the first word the kind says nothing, and before its word is read the task has no turns; an `Option` of either would be no plainer, since `finish` would have to open it where it is always there.
+// A line half read: what has been read, and what is expected next. Before the first word the kind says nothing, and before its word is read the action is to make no turns; an `Option` of either would be no plainer, since `finish` would have to open it where it is always there.
 #[derive(Drop)]
 pub(crate) struct Reader {
     kind: Kind,
     trays: Vec<u8>,
     count: Option<u8>,
     span: Option<u8>,
-    task: Task,
+    action: Action,
     expected: Expected,
 }
 
 impl Reader {
     pub(crate) fn new(heap: Global) -> Reader
-        ensures { Begins result [] }
+        ensures { HasRead result [] }
     {
         Reader {
             kind: Kind::Plain,
             trays: Vec::new(heap),
             count: None,
             span: None,
-            task: Task::Turns(Vec::new(heap)),
+            action: Action::Turns(Vec::new(heap)),
             expected: Expected::Kind,
         }
     }
 
     // Takes all the words and the end of the line, or answers the first of these that may not stand there.
     pub(crate) fn read(&mut self, words: &[Word]) -> Result<(), Misread>
-        requires { Begins self.old [] }
+        requires { HasRead self.old [] }
         ensures ok { OnOk result (IsRead words.now self.new) }
         ensures err { IfErr result (Misreads words.now) }
     {
@@ -43,7 +50,10 @@ impl Reader {
             self.step(at, *word)?;
         }
         if !self.expected.may_end() {
-            return Err(Misread::Unexpected(words.len(), self.expected));
+            return Err(Misread::Unexpected {
+                at: words.len(),
+                expected: self.expected,
+            });
         }
         Ok(())
     }
@@ -54,7 +64,10 @@ impl Reader {
         ensures err { IfErr result (Refuses self.old at word self.new) }
     {
         if !self.expected.allows(word) {
-            return Err(Misread::Unexpected(at, self.expected));
+            return Err(Misread::Unexpected {
+                at,
+                expected: self.expected,
+            });
         }
         match word {
             Word::Kind(kind) => {
@@ -64,12 +77,12 @@ impl Reader {
             Word::Count => self.expected = Expected::CountNumber,
             Word::Span => self.expected = Expected::SpanNumber,
             Word::Turns => self.expected = Expected::Turn,
-            Word::Dual => self.end_with(Task::Dual),
-            Word::Estimate => self.end_with(Task::Estimate),
+            Word::Dual => self.end_with(Action::Dual),
+            Word::Estimate => self.end_with(Action::Estimate),
             Word::Plan => {
-                self.task = Task::Plan {
-                    limit: DEFAULT_LIMIT,
-                    looks: MOST_LOOKS,
+                self.action = Action::Plan {
+                    limit: HIGHEST_LIMIT,
+                    looks: HIGHEST_GRANT_SUM,
                 };
                 self.expected = Expected::LimitWord;
             }
@@ -83,11 +96,11 @@ impl Reader {
         Ok(())
     }
 
-    // Takes a task that ends the line.
-    fn end_with(&mut self, task: Task)
-        ensures { self.new ≡ record self.old { task = task; expected = End } }
+    // Takes a action that ends the line.
+    fn end_with(&mut self, action: Action)
+        ensures { self.new ≡ record self.old { action = action; expected = End } }
     {
-        self.task = task;
+        self.action = action;
         self.expected = Expected::End;
     }
 
@@ -105,7 +118,7 @@ impl Reader {
             }
             Expected::SpanNumber => {
                 self.span = Some(n);
-                self.expected = Expected::TaskWord;
+                self.expected = Expected::ActionWord;
             }
             Expected::Turn => self.take_turn(n)?,
             Expected::LimitNumber => self.take_limit(n),
@@ -120,29 +133,31 @@ impl Reader {
         requires { self.old.expected ≡ LimitNumber }
         ensures { Stepped self.old (Number limit) self.new }
     {
-        let looks = MOST_LOOKS;
-        self.task = Task::Plan { limit, looks };
+        self.action = Action::Plan {
+            limit,
+            looks: HIGHEST_GRANT_SUM,
+        };
         self.expected = Expected::LooksWord;
     }
 
-    // Takes the looks of a plan. They are expected only where the task is a plan.
+    // Takes the looks of a plan. They are expected only where the action is a plan.
     fn take_looks(&mut self, looks: u32)
         requires expected { self.old.expected ≡ LooksNumber }
         requires least { 1 ≤ looks }
-        requires most { looks ≤ 2000000000 }
+        requires most { looks ≤ HIGHEST_GRANT_SUM }
         ensures { Stepped self.old (number_word looks) self.new }
     {
-        if let Task::Plan { limit, .. } = self.task {
-            self.end_with(Task::Plan { limit, looks });
+        if let Action::Plan { limit, .. } = self.action {
+            self.end_with(Action::Plan { limit, looks });
         }
     }
 
-    // Takes the next turn. One is expected only where the task is to make turns.
+    // Takes the next turn. One is expected only where the action is to make turns.
     fn take_turn(&mut self, n: u8) -> Result<(), AllocError>
         requires { self.old.expected ≡ Turn }
         ensures { OnOk result (Stepped self.old (Number n) self.new) }
     {
-        if let Task::Turns(turns) = &mut self.task {
+        if let Action::Turns(turns) = &mut self.action {
             turns.push(n)?;
         }
         Ok(())
@@ -160,14 +175,14 @@ impl Reader {
     // The request that has been read.
     pub(crate) fn finish(self) -> Request
         requires { IsTrue (may_end self.expected) }
-        ensures { (ws : List Word) → Begins self ws → Asks ws result }
+        ensures { (ws : List Word) → HasRead self ws → Asks ws result }
     {
         let Reader {
             kind,
             trays,
             count,
             span,
-            task,
+            action,
             ..
         } = self;
         Request {
@@ -175,71 +190,7 @@ impl Reader {
             trays,
             count,
             span,
-            task,
-        }
-    }
-}
-
-impl Expected {
-    // Whether the word may stand here.
-    fn allows(self, word: Word) -> bool
-        ensures { result ≡ may_stand self word }
-    {
-        match word {
-            Word::Kind(_) => matches!(self, Expected::Kind),
-            Word::Count => matches!(self, Expected::Tray | Expected::RingTray),
-            Word::Span => matches!(self, Expected::RingTray | Expected::SpanWord),
-            Word::Turns | Word::Dual | Word::Estimate | Word::Plan => matches!(
-                self,
-                Expected::Tray | Expected::TaskWord
-            ),
-            Word::Limit => matches!(self, Expected::LimitWord),
-            Word::Looks => matches!(self, Expected::LimitWord | Expected::LooksWord),
-            Word::Number(n) => match self {
-                Expected::Tray
-                | Expected::RingTray
-                | Expected::CountNumber
-                | Expected::SpanNumber
-                | Expected::Turn
-                | Expected::LimitNumber => true,
-                Expected::LooksNumber => n >= 1,
-                _ => false,
-            },
-            Word::Large(n) => {
-                (256..=MOST_LOOKS).contains(&n) && matches!(self, Expected::LooksNumber)
-            }
-            Word::Away(n) => n < 128 && matches!(self, Expected::Tray | Expected::RingTray),
-            Word::Other => false,
-        }
-    }
-
-    // Whether the line may end here.
-    fn may_end(self) -> bool
-        ensures { result ≡ may_end self }
-    {
-        matches!(
-            self,
-            Expected::Turn | Expected::LimitWord | Expected::LooksWord | Expected::End
-        )
-    }
-
-    // What is expected after the kind.
-    fn after_kind(kind: Kind) -> Expected
-        ensures { result ≡ after_kind kind }
-    {
-        match kind {
-            Kind::Plain | Kind::Sided => Expected::Tray,
-            Kind::Ring => Expected::RingTray,
-        }
-    }
-
-    // What is expected after the count of the trays.
-    fn after_count(kind: Kind) -> Expected
-        ensures { result ≡ after_count kind }
-    {
-        match kind {
-            Kind::Plain | Kind::Sided => Expected::TaskWord,
-            Kind::Ring => Expected::SpanWord,
+            action,
         }
     }
 }

@@ -1,29 +1,9 @@
 ghost use Rattle.std.specs.Prelude.{ℕ, ◌<◌, Some, MatchOption};
-ghost use Rattle.text.specs.Words.{IsAway, IsUnsigned, Spells, kind_name};
+ghost use Rattle.text.specs.Words.{IsAway, IsUnsigned, Spells};
 
-use std::fmt;
+use trays::Kind;
 
-// The kind of machine.
-#[derive(Clone, Copy, PartialEq, Eq, Debug)]
-pub enum Kind {
-    Plain,
-    Sided,
-    Ring,
-}
-
-impl fmt::Display for Kind {
-    ghost output = { λ kind. Some (kind_name kind) };
-
-    fn fmt<W: fmt::Write>(&self, f: &mut fmt::Formatter<W>) -> fmt::Result {
-        f.write_str(match self {
-            Kind::Plain => "plain",
-            Kind::Sided => "sided",
-            Kind::Ring => "ring",
-        })
-    }
-}
-
-// A word of a line.
+/// A word of a line.
 #[derive(Clone, Copy, PartialEq, Eq, Debug)]
 pub enum Word {
     Kind(Kind),
@@ -35,16 +15,17 @@ pub enum Word {
     Plan,
     Limit,
     Looks,
-    // a decimal number from 0 to 255
+    /// a decimal number from 0 to 255
     Number(u8),
-    // a decimal number from 256 to 4,294,967,295
+    /// a decimal number from 256 to 4,294,967,295
     Large(u32),
-    // a minus sign and a decimal number from 0 to 127
+    /// a minus sign and a decimal number from 0 to 127
     Away(u8),
+    /// any other text
     Other,
 }
 
-// What the text means as a word of a line.
+/// What the text means as a word of a line.
 impl From<&str> for Word {
     ghost from_gives = { λ text word. Spells text.now word };
 

@@ -1,4 +1,12 @@
-use std::fmt;
+use crate::counted::Counted;
+use crate::help::{asks_help, show_help};
+use crate::reason::Reason;
+use crate::shown::show;
+use machine::Fault;
+use outcome::{Failure, perform};
+use std::{fmt, io};
+use text::Expected;
+use trays::Kind;
 
 // A line that is answered, and its number, from 1, where it is one of several.
 #[derive(Clone, Copy)]
@@ -8,8 +16,59 @@ pub(crate) struct Line<'a> {
 }
 
 impl<'a> Line<'a> {
+    // Does what the line asks for, prints what came of it, and tells whether it asked for anything.
+    pub(crate) fn answer(&self, rt: &HostRuntime) -> anyhow::Result<bool> {
+        if asks_help(self.text) {
+            show_help(rt)?;
+            return Ok(true);
+        }
+        match perform(rt.alloc(), self.text) {
+            Ok(None) => return Ok(false),
+            Ok(Some(outcome)) => show(rt, *self, &outcome)?,
+            Err(Failure::Unexpected { at, expected }) => self.explain(rt, at, expected)?,
+            Err(Failure::Refused { kind, fault }) => self.refuse(rt, kind, fault)?,
+            Err(failure @ Failure::NoMemory) => return Err(failure.into()),
+        }
+        Ok(true)
+    }
+
+    // Says where a line is not understood, and what was expected there.
+    fn explain(&self, rt: &HostRuntime, at: usize, expected: Expected) -> io::Result<()> {
+        let place = at.saturating_add(1);
+        match self.word(at) {
+            Some(word) => print!(rt; "{self}not understood at word {place}, `{word}`")?,
+            None => print!(rt;
+                "{self}not understood: it ends after {}",
+                Counted(at, "word")
+            )?,
+        }
+        print!(rt; ": expected {expected}")?;
+        if expected == Expected::Kind {
+            print!(rt; ", or `help` alone")?;
+        }
+        println!(rt)
+    }
+
+    // Says why a machine of this kind was not set, and at which tray. The trays are the words after the kind, up to `count`.
+    fn refuse(&self, rt: &HostRuntime, kind: Kind, fault: Fault) -> io::Result<()> {
+        let number = fault.number();
+        let reason = Reason { kind, fault };
+        let Some(i) = fault.index() else {
+            return println!(rt; "{self}refused {number}: {reason}");
+        };
+        let place = i.saturating_add(1);
+        match self.word(place) {
+            Some(word) if word != "count" => {
+                println!(rt; "{self}refused {number} at place {place}, `{word}`: {reason}")
+            }
+            _ => println!(rt;
+                "{self}refused {number} at place {place}: the line has no tray there"
+            ),
+        }
+    }
+
     // The word at this index, from 0.
-    pub(crate) fn word(&self, at: usize) -> Option<&'a str> {
+    fn word(&self, at: usize) -> Option<&'a str> {
         self.text.split_whitespace().nth(at)
     }
 }

@@ -1,13 +1,16 @@
+//! Answers lines that people write: what comes of each is drawn, or told why nothing was done.
+
 #![tactic(auto)]
 
-mod answer;
-mod drawing;
+mod block;
+mod counted;
 mod help;
 mod line;
+mod listed;
+mod reason;
+mod row;
 mod shown;
-mod work;
 
-use answer::answer;
 use help::show_help;
 use line::Line;
 use std::io::{BufRead, BufReader};
@@ -20,7 +23,7 @@ fn run(rt: &HostRuntime) -> anyhow::Result<()> {
         number: None,
         text: arguments.as_str(),
     };
-    if !answer(rt, line)? && !answer_lines(rt)? {
+    if !line.answer(rt)? && !answer_lines(rt)? {
         show_help(rt)?;
     }
     Ok(())
@@ -45,10 +48,11 @@ fn answer_lines(rt: &HostRuntime) -> anyhow::Result<bool> {
         match line {
             Ok(text) => {
                 let text = text.as_str();
-                asked |= answer(rt, Line { number, text })?;
+                asked |= Line { number, text }.answer(rt)?;
             }
             Err(e) => {
-                not_text(rt, Line { number, text: "" }, e)?;
+                let line = Line { number, text: "" };
+                not_text(rt, line, e)?;
                 asked = true;
             }
         }

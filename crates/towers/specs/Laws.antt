@@ -2,9 +2,9 @@ use Rattle.std.specs.Prelude.{◌≡◌, ℕ, ◌≤◌, refl}
 use Rattle.std.proofs.Common.{ap, arith}
 use Rattle.trays.specs.Arranged.{same_arrangement}
 use Rattle.trays.specs.declared.tray.Tray.{Ghosts}
-use Rattle.trays.proofs.Kind.{Kind}
-use Rattle.trays.proofs.Permuting.{first_in_order}
-use Rattle.trays.proofs.Turning.{block_move, block_exchange}
+use Rattle.trays.proofs.KindFacts.{KindFacts}
+use Rattle.trays.proofs.Permutations.{first_in_order}
+use Rattle.trays.proofs.Blocks.{block_move, block_exchange}
 use Rattle.towers.specs.declared.tower.Tower.{Tower}
 use Rattle.towers.specs.Towers.{held, mirrored, permuted, refitted, tower, turn_moves}
 
@@ -21,7 +21,7 @@ module _ {A : Type 0} {b : Ghosts A} where
   pub held_fixed : (s t : Tower A b) → held s ≡ held t → s ≡ t
   held_fixed s t e = same_tower s t (ap (λ h. h.count) e) (ap (λ h. h.trays) e)
 
-  unfoldable pub tower_kind : (low : ℕ) → 1 ≤ low → Kind b.form b.regular (tower {b = b} low) mirrored count
+  unfoldable pub tower_kind : (low : ℕ) → 1 ≤ low → KindFacts b.form b.regular (tower {b = b} low) mirrored count
   tower_kind low from = record {
     trays = λ s. s.arrangement.trays;
     count = λ n. n;
@@ -31,7 +31,7 @@ module _ {A : Type 0} {b : Ghosts A} where
     refitted = λ s ys p. (refitted s ys p, refl, refl);
     range = λ s t e. (refl, e);
     from_one = λ s. from;
-    to_250 = λ s. let m = s.arrangement.most in omega arith;
+    to_highest = λ s. let m = s.arrangement.most in omega arith;
     move = block_move;
     exchange = λ s k. block_exchange s.arrangement.n k;
     after_base = λ s k. refl;

@@ -4,12 +4,12 @@ use Rattle.machine.specs.Meaning.{Meaning}
 use Rattle.reversal.specs.Reversed.{flipped}
 use Rattle.trays.specs.Permutation.{in_order, inverse}
 use Rattle.trays.specs.Sides.{turned_over}
-use Rattle.trays.specs.Setting.{Holding}
+use Rattle.trays.specs.Settable.{Holding}
 use Rattle.trays.specs.declared.tray.Tray.{Ghosts}
 use Rattle.trays.proofs.Exchange.{Moved, moved_permutation}
-use Rattle.trays.proofs.Inverting.{inverse_permutation}
-use Rattle.trays.proofs.Permuting.{Permutation, from_test, to_test}
-use Rattle.trays.proofs.Turning.{block_move, block_exchange, block_moved}
+use Rattle.trays.proofs.Inverses.{inverse_permutation}
+use Rattle.trays.proofs.Permutations.{Permutation, from_test, to_test}
+use Rattle.trays.proofs.Blocks.{block_move, block_exchange, block_moved}
 use Rattle.towers.specs.declared.tower.Tower.{Tower}
 
 module _ {A : Type 0} {b : Ghosts A} where

@@ -4,7 +4,7 @@ use Rattle.std.proofs.Common.{◌∙◌, ap, ap₂, ⊎_elim, arith}
 use Rattle.std.proofs.lemmas.Bool.Decides.{Decides-and, Decides-eqb, Decides-like}
 use Rattle.std.proofs.lemmas.Bool.{cases_lt, cond-false, cond-true, le-leb, lt-leb, not-true, not_from_false}
 use Rattle.trays.specs.Form.{TrayForm, Regular}
-use Rattle.towers.specs.declared.tray.SidedTray.{SidedTray}
+use Rattle.towers.specs.declared.sided_tray.SidedTray.{SidedTray}
 
 -- The tray that a byte stands for: the number is the low seven bits, and 128 more turns the door away.
 abbrev pub from_byte : ℕ → SidedTray

@@ -1,4 +1,4 @@
-use Rattle.std.proofs.Common.{◌≡◌, ℕ, zero, suc, ◌+◌, ◌*◌, ◌/◌, ◌%◌, ◌^◌, ◌<◌, max, ap, ◌∙◌, pow-suc, zero-mul, arith}
+use Rattle.std.proofs.Common.{◌≡◌, ℕ, zero, suc, ◌+◌, ◌*◌, ◌/◌, ◌%◌, ◌^◌, ◌<◌, max, sym, ap, ◌∙◌, pow-suc, zero-mul, arith}
 use lib.Bits.{bit_and, bit_or, or_step, or_zero_r}
 use lib.Count.{ones, ones_step, ones-le}
 use Rattle.std.specs.Int.{bit_at}
@@ -53,6 +53,18 @@ full (suc n) m lt e (suc v) h =
     let le = ones-le n (m / 2) half in
     let rest : ones (m / 2) ≡ n = omega arith in
     bit_at-suc m v ∙ full n (m / 2) half rest v (omega arith)
+
+-- and n digits that are all set count n
+pub full_count : (n m : ℕ) → m < 2 ^ n → ((v : ℕ) → v < n → bit_at m v ≡ 1) → ones m ≡ n
+unfolding ones
+full_count zero m lt set = let none : m ≡ 0 = omega arith in ap ones none
+full_count (suc n) m lt set =
+    let s = ones_step m in
+    let p = pow-suc 2 n in
+    let f = bit_at_lowest m in
+    let first = set 0 (omega arith) in
+    let rest = full_count n (m / 2) (omega arith) (λ v h. sym (bit_at-suc m v) ∙ set (suc v) (omega arith)) in
+    omega arith
 
 -- the test of one digit, by a mask
 pub and_mark : (k m : ℕ) → (bit_and m (2 ^ k) ≡ 0 → bit_at m k ≡ 0) × (bit_at m k ≡ 0 → bit_and m (2 ^ k) ≡ 0)

@@ -1,7 +1,7 @@
 use Rattle.std.proofs.Common.{◌≡◌, ℕ, ◌<◌, ◌≤◌, Bool, false, List, length, sym, ap, ◌∙◌, ap₂, arith}
 use Rattle.std.proofs.lemmas.List.{ext_get_or}
 use Rattle.trays.specs.Form.{TrayForm, Regular, tray_at}
-use Rattle.trays.proofs.Permuting.{Permutation}
+use Rattle.trays.proofs.Permutations.{Permutation}
 
 -- What a turn does with the places: which place each one changes with, and whether the tray that comes there is turned over.
 pub record Move : Type 0 where

@@ -5,10 +5,10 @@ use Rattle.trays.specs.Apart.{Apart}
 use Rattle.trays.specs.Form.{TrayForm, Regular, tray_at}
 use Rattle.trays.specs.Run.{RunReversed, place_on, steps_to}
 use Rattle.trays.proofs.Exchange.{Moved}
-use Rattle.trays.proofs.Permuting.{Ordered}
-use Rattle.trays.proofs.Running.{on_near, on_far, on_within, to_on}
+use Rattle.trays.proofs.Permutations.{Ordered}
+use Rattle.trays.proofs.Runs.{on_near, on_far, on_within, to_on}
 use Rattle.trays.proofs.Tally.{one_at_most, tally, tally_append, tally_first, tally_more, tally_none, tally_reverse, tally_round, tally_same}
-use Rattle.trays.proofs.Turning.{block_move}
+use Rattle.trays.proofs.Blocks.{block_move}
 
 -- How many neighbours are apart, and what a turn does to that number.
 

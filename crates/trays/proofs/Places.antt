@@ -2,7 +2,7 @@ use Rattle.std.proofs.Common.{◌≡◌, ℕ, ◌+◌, ◌-◌, ◌<◌, ◌≤�
 use Rattle.std.proofs.lemmas.Bool.{true≢false}
 use Rattle.std.proofs.lemmas.List.{get_or_default, get_or-take, length-take-le}
 use Rattle.trays.specs.Form.{TrayForm, Regular, tray_at}
-use Rattle.trays.specs.Setting.{Blank, Found}
+use Rattle.trays.specs.Settable.{Blank, Found}
 
 module _ {A : Type 0} (f : TrayForm A) (n : ℕ) (xs : List A) where
   -- an item of the first n trays is the tray at its place

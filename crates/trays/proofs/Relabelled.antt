@@ -5,8 +5,8 @@ use Rattle.std.proofs.lemmas.List.{ext_get_or, length-map}
 use Rattle.trays.specs.Form.{TrayForm, Regular, number_at, tray_at}
 use Rattle.trays.specs.Permutation.{inverse}
 use Rattle.trays.proofs.Exchange.{Move, Exchange, Moved, moved_from, moved_permutation}
-use Rattle.trays.proofs.Inverting.{place_of, length-inverse, inverse_at, inverse_past}
-use Rattle.trays.proofs.Permuting.{Permutation, Ordered}
+use Rattle.trays.proofs.Inverses.{place_of, length-inverse, inverse_at, inverse_past}
+use Rattle.trays.proofs.Permutations.{Permutation, Ordered}
 
 -- A move made on the numbers of trays in place of their places: number i + 1 belongs to place i.
 module _ {A : Type 0} (f : TrayForm A) (v : Move) where

@@ -1,6 +1,6 @@
 use Rattle.std.proofs.Common.{◌≡◌, ℕ, zero, suc, ◌+◌, ◌-◌, ◌<◌, ◌≤◌, Bool, true, false, cond, sym, refl, ap, ap₂, ◌∙◌, arith}
 use Rattle.trays.specs.Run.{place_on}
-use Rattle.trays.proofs.Running.{on_near, on_far}
+use Rattle.trays.proofs.Runs.{on_near, on_far}
 
 -- how many of the numbers below n have p
 unfoldable pub tally : ℕ → (ℕ → Bool) → ℕ

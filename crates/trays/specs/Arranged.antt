@@ -2,6 +2,7 @@ use Rattle.std.specs.Prelude.{◌≡◌, ◌≤◌, true, IsTrue}
 use mathlib.Core.Bool.{Bool-set}
 use mathlib.Core.HLevel.{is_prop→PathP}
 use Rattle.std.proofs.Math.Bridge.{le_prop}
+use Rattle.trays.specs.declared.arrangement.TheConstants.{MOST_TRAYS}
 use Rattle.trays.specs.Permutation.{permutation}
 use Rattle.trays.specs.declared.arrangement.Arrangement.{Arrangement}
 use Rattle.trays.specs.declared.tray.Tray.{Ghosts}
@@ -12,6 +13,6 @@ same_arrangement {A} {b} s t p q = λ i. record {
   n = p i;
   trays = q i;
   least = is_prop→PathP (λ i. 1 ≤ p i) (λ i. le_prop) s.least t.least i;
-  most = is_prop→PathP (λ i. p i ≤ 32) (λ i. le_prop) s.most t.most i;
+  most = is_prop→PathP (λ i. p i ≤ MOST_TRAYS) (λ i. le_prop) s.most t.most i;
   each_once = is_prop→PathP (λ i. IsTrue (permutation b.form (p i) (q i))) (λ i. Bool-set (permutation b.form (p i) (q i)) true) s.each_once t.each_once i;
 }

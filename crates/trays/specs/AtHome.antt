@@ -1,7 +1,7 @@
 use Rattle.std.specs.Prelude.{◌≡◌, ℕ, true, List, take}
 use Rattle.trays.specs.Form.{TrayForm}
 use Rattle.trays.specs.Permutation.{in_order}
-use Rattle.trays.specs.Setting.{Accepted}
+use Rattle.trays.specs.Settable.{Accepted}
 
 -- The first n trays stand as at home, and there are no others.
 pub record AtHome {A : Type 0} (f : TrayForm A) (n : ℕ) (xs : List A) : Type 0 where

@@ -2,9 +2,10 @@ pub mod Apart
 pub mod Arranged
 pub mod AtHome
 pub mod Form
-pub mod Reading
+pub mod Kinds
+pub mod Bytes
 pub mod Run
-pub mod Setting
+pub mod Settable
 pub mod Sides
 pub mod Marks
 pub mod Permutation

@@ -1,5 +1,6 @@
 use Rattle.std.specs.Prelude.{◌≡◌, ℕ, zero, suc, ◌+◌, ◌-◌, ◌<◌, ◌≤◌, Bool, true, false, if◌then◌else◌, IsTrue, not, ◌&&◌, ◌||◌, List, map, length, ◌==◌, nat_eq, nat_le}
 use Rattle.std.specs.List.{range_with_len}
+use Rattle.trays.specs.declared.arrangement.TheConstants.{MOST_TRAYS}
 use Rattle.trays.specs.Form.{TrayForm, number_at, tray_at}
 
 -- p of each number below n
@@ -25,11 +26,11 @@ numbered n x = nat_le 1 x && nat_le x n
 abbrev pub repeats : (ℕ → ℕ) → ℕ → Bool
 repeats f i = some i (λ k. nat_eq (f k) (f i))
 
--- 32 places: the first n have the numbers 1 to n, each once, and the rest no tray
+-- all places: the first n have the numbers 1 to n, each once, and the rest no tray
 unfoldable pub permutation : {A : Type 0} → TrayForm A → ℕ → List A → Bool
 permutation f n xs =
-    (length xs == 32)
-    && (every n (λ i. numbered n (number_at f xs i)) && (every n (λ i. not (repeats (number_at f xs) i)) && every (32 - n) (λ i. f.stands 0 (tray_at f xs (n + i)))))
+    (length xs == MOST_TRAYS)
+    && (every n (λ i. numbered n (number_at f xs i)) && (every n (λ i. not (repeats (number_at f xs) i)) && every (MOST_TRAYS - n) (λ i. f.stands 0 (tray_at f xs (n + i)))))
 
 -- the trays 1, 2, 3 and so on, each as it stands at home
 unfoldable pub in_order : {A : Type 0} → TrayForm A → List A → Bool
@@ -40,10 +41,10 @@ abbrev pub answering : {A : Type 0} → TrayForm A → List A → ℕ → A
 answering f xs zero = f.upright 0
 answering f xs (suc i) = f.renumbered (suc i) (tray_at f xs i)
 
--- 32 places: where one of the first n places, i, holds tray j, place j of the inverse holds tray i, on the same side
+-- all places: where one of the first n places, i, holds tray j, place j of the inverse holds tray i, on the same side
 unfoldable pub inverse : {A : Type 0} → TrayForm A → ℕ → List A → List A
-inverse f n xs = map (λ j. answering f xs (last n (λ i. nat_eq (number_at f xs i) (suc j)))) (range_with_len 0 32)
+inverse f n xs = map (λ j. answering f xs (last n (λ i. nat_eq (number_at f xs i) (suc j)))) (range_with_len 0 MOST_TRAYS)
 
 -- Of a permutation: where place i holds tray j + 1, place j of the inverse holds tray i + 1, on the same side. Places count from 0.
 abbrev pub Inverts : {A : Type 0} → TrayForm A → Type 0
-Inverts {A} f = (n : ℕ) (xs : List A) → n ≤ 32 → IsTrue (permutation f n xs) → (i j : ℕ) → i < n → number_at f xs i ≡ suc j → tray_at f (inverse f n xs) j ≡ f.renumbered (suc i) (tray_at f xs i)
+Inverts {A} f = (n : ℕ) (xs : List A) → n ≤ MOST_TRAYS → IsTrue (permutation f n xs) → (i j : ℕ) → i < n → number_at f xs i ≡ suc j → tray_at f (inverse f n xs) j ≡ f.renumbered (suc i) (tray_at f xs i)

@@ -1,10 +1,11 @@
 use Rattle.std.specs.Prelude.{◌≡◌, ℕ, ◌+◌, ◌-◌, ◌<◌, if◌then◌else◌, List, map, ◌≢◌, nat_le, nat_lt}
 use Rattle.std.specs.List.{range_with_len}
+use Rattle.trays.specs.declared.arrangement.TheConstants.{MOST_TRAYS}
 use Rattle.trays.specs.Form.{TrayForm, tray_at}
 
 -- Places counted round a ring of n: the first follows the last.
 
--- the place that lies j steps on from place a, for j below n
+-- the place that lies j steps on from place a, where both a and j are below n
 abbrev pub place_on : ℕ → ℕ → ℕ → ℕ
 place_on n a j = if nat_lt (a + j) n then a + j else a + j - n
 
@@ -19,9 +20,9 @@ partner n span a i =
     then (if nat_lt (steps_to n a i) span then place_on n a (span - 1 - steps_to n a i) else i)
     else i
 
--- 32 places of which the first n are a ring, with that run turned round
+-- all places, of which the first n are a ring, with that run turned round
 unfoldable pub run_turned : {A : Type 0} → TrayForm A → ℕ → ℕ → ℕ → List A → List A
-run_turned f n span a xs = map (λ i. tray_at f xs (partner n span a i)) (range_with_len 0 32)
+run_turned f n span a xs = map (λ i. tray_at f xs (partner n span a i)) (range_with_len 0 MOST_TRAYS)
 
 -- The tray that comes j steps on in the run stood as many steps before its end; every other stays.
 pub record RunReversed {A : Type 0} (f : TrayForm A) (n span a : ℕ) (xs ys : List A) : Type 0 where

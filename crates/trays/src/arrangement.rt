@@ -1,24 +1,31 @@
 ghost use Rattle.std.specs.Prelude.{◌≡◌, ℕ, ◌≤◌, ⊤, IsTrue, min, max, map, take, MatchResult};
+ghost use Rattle.trays.specs.declared.arrangement.TheConstants.{MOST_TRAYS};
 ghost use Rattle.trays.specs.AtHome.{AtHome};
 ghost use Rattle.trays.specs.Permutation.{in_order, inverse, permutation};
-ghost use Rattle.trays.specs.Setting.{Accepted, Refused, Spanned};
+ghost use Rattle.trays.specs.Settable.{Accepted, Refused, Spanned};
 
 use crate::bytes::read_trays;
 use crate::check::check_trays;
 use crate::first::home_trays;
 use crate::inverse::invert;
 use crate::order::is_in_order;
-use crate::settable::Setup;
+use crate::setup::Setup;
 use crate::tray::Tray;
 use machine::Fault;
 use std::alloc::AllocError;
 
-// n trays in 32 places: the first n places have the numbers 1 to n, each once, and the others no tray. The length stands beside an array: a `Vec` would ask for memory, which a machine does not, and the library's `ArrayVec` is no `Copy`.
+/// How many trays a machine has at most, and how many places.
+pub const MOST_TRAYS: usize = 32;
+
+// The number stands beside an array: a `Vec` would ask for memory, which a machine does not, and the library's `ArrayVec` is no `Copy`.
+/// n trays in `MOST_TRAYS` places: the first n places have the numbers 1 to n, each once, and the others no tray.
 pub struct Arrangement<T: Tray> {
+    /// how many trays
     pub n: u8,
-    pub trays: [T; 32],
+    /// the trays, and `T::upright(0)` in each place after them
+    pub trays: [T; MOST_TRAYS],
     ghost least: { 1 ≤ n },
-    ghost most: { n ≤ 32 },
+    ghost most: { n ≤ MOST_TRAYS },
     ghost each_once: { IsTrue (permutation T.form n trays) },
 }
 
@@ -36,15 +43,15 @@ impl<T: Tray> Clone for Arrangement<T> {
 impl<T: Tray> Copy for Arrangement<T> {}
 
 impl<T: Tray> Arrangement<T> {
-    // The trays 1 to n as they stand at home. n below 1 counts as 1, and above 32 as 32.
+    /// The trays 1 to n as they stand at home. n below 1 counts as 1, and above `MOST_TRAYS` as that.
     pub fn home(n: u8) -> Arrangement<T>
-        ensures count { result.n ≡ max (min n 32) 1 }
+        ensures count { result.n ≡ max (min n MOST_TRAYS) 1 }
         ensures home { AtHome T.form result.n result.trays }
     {
-        Arrangement::accepted(n.clamp(1, 32), home_trays(n))
+        Arrangement::accepted(n.clamp(1, MOST_TRAYS as u8), home_trays(n))
     }
 
-    // The arrangement of the first n bytes, where the other bytes are 0; or why there is none. A least number below 1 counts as 1.
+    /// The arrangement of the first n bytes, where the other bytes are 0; or why there is none. A least number below 1 counts as 1.
     pub fn from_setup(least: u8, setup: &Setup<Option<u8>>) -> Result<Arrangement<T>, Fault>
         ensures { MatchResult result
             (λ a. (a.n ≡ setup.now.n)
@@ -60,7 +67,7 @@ impl<T: Tray> Arrangement<T> {
     }
 
     // The arrangement of trays that have passed every check.
-    fn accepted(n: u8, trays: [T; 32]) -> Arrangement<T>
+    fn accepted(n: u8, trays: [T; MOST_TRAYS]) -> Arrangement<T>
         requires least { 1 ≤ n }
         requires accepted { (least : ℕ) × Accepted T.form least n trays }
         ensures count { result.n ≡ n }
@@ -69,22 +76,22 @@ impl<T: Tray> Arrangement<T> {
         Arrangement { n, trays }
     }
 
-    // The trays from place 1 on.
+    /// The trays from place 1 on.
     pub fn trays(&self) -> &[T]
         ensures { result.now ≡ take self.now.n self.now.trays }
     {
         &self.trays[..self.n as usize]
     }
 
-    // Whether the trays stand as at home.
+    /// Whether the trays stand as at home.
     pub fn is_home(&self) -> bool
         ensures { result ≡ in_order T.form (take self.now.n self.now.trays) }
     {
         is_in_order(self.trays())
     }
 
-    // The arrangement whose trays and places have changed parts.
-    #[tactic(auto, using(crate::proofs::Inverting::inverse_kept))]
+    /// The arrangement whose trays and places have changed parts.
+    #[tactic(auto, using(crate::proofs::Inverses::inverse_kept))]
     pub fn inverted(&self) -> Arrangement<T>
         ensures count { result.n ≡ self.now.n }
         ensures trays { result.trays ≡ inverse T.form self.now.n self.now.trays }

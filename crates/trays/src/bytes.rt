@@ -1,12 +1,13 @@
 ghost use Rattle.std.specs.Prelude.{◌≡◌, map};
-ghost use Rattle.trays.specs.Reading.{BlanksRead};
+ghost use Rattle.trays.specs.Bytes.{BlanksRead};
 
+use crate::arrangement::MOST_TRAYS;
 use crate::tray::Tray;
 use std::array;
 
-// The trays that the bytes stand for.
-#[tactic(auto, using(crate::proofs::Reading::blanks_read))]
-pub fn read_trays<T: Tray>(bytes: &[u8; 32]) -> [T; 32]
+/// The trays that the bytes stand for.
+#[tactic(auto, using(crate::proofs::BytesRead::blanks_read))]
+pub fn read_trays<T: Tray>(bytes: &[u8; MOST_TRAYS]) -> [T; MOST_TRAYS]
     ensures blanks { BlanksRead T.form }
     ensures value { result ≡ map T.form.read bytes.now }
 {

@@ -2,20 +2,23 @@ ghost use Rattle.std.specs.Prelude.{◌≡◌, ◌<◌, ◌≤◌, ◌↔◌, Is
 ghost use Rattle.machine.specs.declared.fault.Fault.TheVariants.{TrayCount, Span};
 ghost use Rattle.trays.specs.Form.{number_at};
 ghost use Rattle.trays.specs.Marks.{MarksCount};
-ghost use Rattle.trays.specs.Setting.{Accepted, Blank, Counted, Each, Found, New, Numbered, OneAnswer, Refused, Spanned};
+ghost use Rattle.trays.specs.Settable.{Accepted, Blank, Counted, Each, Found, LacksNone, New, Numbered, OneAnswer, Refused, Spanned};
 
+use crate::arrangement::MOST_TRAYS;
 use crate::tray::Tray;
 use machine::Fault;
 
-// Checks the 32 trays of a machine of n trays: refuses a wrong number of trays, then a wrong span where the kind has one, then numbers that are not 1 to n, each once, then a tray after them.
-#[tactic(auto, using(crate::proofs::Answering::one_answer))]
+/// Checks the trays of a machine of n trays, and the places after them: refuses a wrong number of trays, then a wrong span where the kind has one, then numbers that are not 1 to n, each once, then a tray after them.
+#[tactic(auto, using(crate::proofs::OneAnswer::one_answer, crate::proofs::MarkCounts::marks_count))]
 pub fn check_trays<T: Tray>(
     least: u8,
     n: u8,
     span: Option<u8>,
-    trays: &[T; 32],
+    trays: &[T; MOST_TRAYS],
 ) -> Result<(), Fault>
     ensures one { OneAnswer T.form }
+    ensures marked { MarksCount }
+    ensures lacks_none { LacksNone T.form }
     ensures cases { MatchResult result
         (λ _. Spanned n span × Accepted T.form least n trays.now)
         (λ f. Refused T.form least n span trays.now f) }
@@ -34,11 +37,11 @@ pub fn check_trays<T: Tray>(
     Ok(())
 }
 
-// Refuses a number of trays below the kind's least or above 32.
+// Refuses a number of trays below the kind's least or above `MOST_TRAYS`.
 fn check_count(least: u8, n: u8) -> Result<(), Fault>
     ensures { MatchResult result (λ _. Counted least n) (λ f. (f ≡ TrayCount) × ¬ Counted least n) }
 {
-    if !(least..=32).contains(&n) {
+    if !(least..=MOST_TRAYS as u8).contains(&n) {
         return Err(Fault::TrayCount);
     }
     Ok(())
@@ -54,11 +57,11 @@ fn check_span(n: u8, span: Option<u8>) -> Result<(), Fault>
     }
 }
 
-// The next four take n and the trays each, since the prover does not find that a struct with 32 trays of a generic T, which a method would borrow, fits in memory.
+// The next four take n and the trays each, since the prover does not find that a struct with an array of trays of a generic T, which a method would borrow, fits in memory.
 
 // The first of n places whose number is not from 1 to n.
-fn misnumbered<T: Tray>(n: u8, trays: &[T; 32]) -> Option<usize>
-    requires { n ≤ 32 }
+fn misnumbered<T: Tray>(n: u8, trays: &[T; MOST_TRAYS]) -> Option<usize>
+    requires { n ≤ MOST_TRAYS }
     ensures { Found (Numbered n (number_at T.form trays.now)) 0 n result }
 {
     trays
@@ -68,9 +71,9 @@ fn misnumbered<T: Tray>(n: u8, trays: &[T; 32]) -> Option<usize>
 }
 
 // The first of n places whose number stands at an earlier place too. The numbers seen are bits of a word, as in `all_distinct`, which counts them.
-#[tactic(auto, using(crate::proofs::Marking::marking))]
-fn repeated<T: Tray>(n: u8, trays: &[T; 32]) -> Option<usize>
-    requires few { n ≤ 32 }
+#[tactic(auto, using(crate::proofs::MarkCounts::marking))]
+fn repeated<T: Tray>(n: u8, trays: &[T; MOST_TRAYS]) -> Option<usize>
+    requires few { n ≤ MOST_TRAYS }
     requires numbered { Each (Numbered n (number_at T.form trays.now)) 0 n }
     ensures { Found (New (number_at T.form trays.now)) 0 n result }
 {
@@ -90,12 +93,11 @@ fn repeated<T: Tray>(n: u8, trays: &[T; 32]) -> Option<usize>
 }
 
 // Whether none of n numbers stands twice: each sets its mark, and n marks are counted.
-#[tactic(auto, using(crate::proofs::Marking::marking))]
-fn all_distinct<T: Tray>(n: u8, trays: &[T; 32]) -> bool
-    requires few { n ≤ 32 }
+#[tactic(auto, using(crate::proofs::MarkCounts::marking))]
+fn all_distinct<T: Tray>(n: u8, trays: &[T; MOST_TRAYS]) -> bool
+    requires few { n ≤ MOST_TRAYS }
     requires numbered { Each (Numbered n (number_at T.form trays.now)) 0 n }
-    ensures marked { MarksCount }
-    ensures cases { IsTrue result ↔ (Each (New (number_at T.form trays.now)) 0 n) }
+    ensures { IsTrue result ↔ (Each (New (number_at T.form trays.now)) 0 n) }
 {
     let mut marks = 0u32;
     // A loop, since in the closure of a `fold` it is not known that the number is from 1 to n, which the subtraction and the shift need.
@@ -106,8 +108,8 @@ fn all_distinct<T: Tray>(n: u8, trays: &[T; 32]) -> bool
 }
 
 // The first place from n on that has a tray.
-fn filled<T: Tray>(n: u8, trays: &[T; 32]) -> Option<usize>
-    ensures { Found (Blank T.form trays.now) n 32 result }
+fn filled<T: Tray>(n: u8, trays: &[T; MOST_TRAYS]) -> Option<usize>
+    ensures { Found (Blank T.form trays.now) n MOST_TRAYS result }
 {
     trays
         .iter()

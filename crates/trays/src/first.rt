@@ -1,14 +1,15 @@
 ghost use Rattle.std.specs.Prelude.{◌≡◌, ◌+◌, if◌then◌else◌, nat_lt, min, max};
 ghost use Rattle.trays.specs.AtHome.{AtHome};
 
+use crate::arrangement::MOST_TRAYS;
 use crate::tray::Tray;
 use std::array;
 
-// The trays 1 to n as they stand at home, and none after them. n below 1 counts as 1, and above 32 as 32.
-pub fn home_trays<T: Tray>(n: u8) -> [T; 32]
-    ensures { AtHome T.form (max (min n 32) 1) result }
+/// The trays 1 to n as they stand at home, and none after them. n below 1 counts as 1, and above `MOST_TRAYS` as that.
+pub fn home_trays<T: Tray>(n: u8) -> [T; MOST_TRAYS]
+    ensures { AtHome T.form (max (min n MOST_TRAYS) 1) result }
 {
-    let count = n.clamp(1, 32);
+    let count = n.clamp(1, MOST_TRAYS as u8);
     array::from_fn(|i| home_tray(count, i))
 }
 

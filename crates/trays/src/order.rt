@@ -3,7 +3,7 @@ ghost use Rattle.trays.specs.Permutation.{in_order};
 
 use crate::tray::Tray;
 
-// Whether the trays are 1, 2, 3 and so on, each as it stands at home.
+/// Whether the trays are 1, 2, 3 and so on, each as it stands at home.
 pub fn is_in_order<T: Tray>(trays: &[T]) -> bool
     ensures { result ≡ in_order T.form trays.now }
 {

@@ -2,18 +2,19 @@ use Rattle.std.proofs.Common.{◌≡◌, ℕ, ◌+◌, ◌≤◌, ◌<◌, List,
 use Rattle.std.proofs.lemmas.Bool.{cases_lt, cond-true, cond-false, lt-ltb, le-ltb}
 use Rattle.machine.specs.Meaning.{Meaning, InRange, Lawful}
 use Rattle.search.specs.Search.{followed_by, looks_by, looks_from}
+use Rattle.search.specs.declared.limit.TheConstants.{HIGHEST_LIMIT}
 use Rattle.walk.specs.Left.{Leads, and_above, looks_later, left_at, left_after, left_here}
-use Rattle.walk.specs.Walks.{made, tried, machine, Down, NoneLeft, Back, AtStart, Stands, Over}
-use Rattle.walk.specs.declared.walking.Walk.{Walk}
+use Rattle.walk.specs.Walks.{made, tried, machine, Down, NoneLeft, Back, StaysAtStart, Stands, Over}
+use Rattle.walk.specs.declared.walk.Walk.{Walk}
 
 -- The steps of a walk, and what is left of a round after each.
 
 module _ {S : Type 0} (m : Meaning S) (e : S → ℕ) (threshold : ℕ) (made : List ℕ) (s : S) (tried : ℕ) where
-  pub with_room : length made ≤ 64 → left_here m e threshold made s tried ≡ left_after m e threshold made s tried
-  with_room few = cond-false (nat_lt 64 (length made)) _ _ (le-ltb 64 (length made) few)
+  pub with_room : length made ≤ HIGHEST_LIMIT → left_here m e threshold made s tried ≡ left_after m e threshold made s tried
+  with_room few = cond-false (nat_lt HIGHEST_LIMIT (length made)) _ _ (le-ltb HIGHEST_LIMIT (length made) few)
 
-  without_room : 64 < length made → left_here m e threshold made s tried ≡ and_above m e threshold made s []
-  without_room many = cond-true (nat_lt 64 (length made)) _ _ (lt-ltb 64 (length made) many)
+  without_room : HIGHEST_LIMIT < length made → left_here m e threshold made s tried ≡ and_above m e threshold made s []
+  without_room many = cond-true (nat_lt HIGHEST_LIMIT (length made)) _ _ (lt-ltb HIGHEST_LIMIT (length made) many)
 
 module _ {S M : Type 0} (m : Meaning S) (state : M → S) where
   none_left : (p q : Walk M) → NoneLeft m state p q → (e : S → ℕ) (threshold : ℕ) → left_here m e threshold (made p) (state (machine p)) (tried p) ≡ and_above m e threshold (made p) (state (machine p)) []
@@ -24,7 +25,7 @@ module _ {S M : Type 0} (m : Meaning S) (state : M → S) where
       (λ few.
       with_room m e threshold (made p) s (tried p) few
       ∙ ap (λ ks. and_above m e threshold (made p) s (looks_by (λ k. looks_from m e threshold (k ∷ made p) (m.after s k)) ks)) (none.none few))
-      (cases_lt 64 (length (made p)))
+      (cases_lt HIGHEST_LIMIT (length (made p)))
 
   -- The walk w came back from the walk p, and the same looks are left of a round.
   pub record CameBack (p : Walk M) (w : Walk M) : Type 0 where
@@ -33,7 +34,7 @@ module _ {S M : Type 0} (m : Meaning S) (state : M → S) where
     pub left : (e : S → ℕ) (threshold : ℕ) → left_here m e threshold (made p) (state p.here) (tried p) ≡ left_here m e threshold (made w) (state w.here) (tried w)
 
   -- what is left is the same one turn back, where nothing is left here
-  pub back_left : (p q : Walk M) → Back m state p q → length (made q) ≤ 64 → (e : S → ℕ) (threshold : ℕ) → and_above m e threshold (made p) (state (machine p)) [] ≡ left_here m e threshold (made q) (state (machine q)) (tried q)
+  pub back_left : (p q : Walk M) → Back m state p q → length (made q) ≤ HIGHEST_LIMIT → (e : S → ℕ) (threshold : ℕ) → and_above m e threshold (made p) (state (machine p)) [] ≡ left_here m e threshold (made q) (state (machine q)) (tried q)
   back_left p q back few e threshold =
       let s = state (machine p) in
       ap (λ ks. and_above m e threshold ks s []) back.made_less
@@ -45,7 +46,7 @@ module _ {S M : Type 0} (m : Meaning S) (state : M → S) where
   back_leads p q root back leads =
       subst (Leads m root (made q)) (sym back.leads) (subst (λ ks. Leads m root ks (state (machine p))) back.made_less leads).1
 
-  pub one_back : (p w v q : Walk M) → CameBack p w → NoneLeft m state w v → Back m state v q → length (made q) ≤ 64 → length (made v) ≡ length (made q) + 1 → CameBack p q
+  pub one_back : (p w v q : Walk M) → CameBack p w → NoneLeft m state w v → Back m state v q → length (made q) ≤ HIGHEST_LIMIT → length (made v) ≡ length (made q) + 1 → CameBack p q
   one_back p w v q came none back few shorter =
       let same = none.same in
       let same_length : length (made v) ≡ length (made w) = ap (λ x. length (made x)) same in
@@ -82,7 +83,7 @@ module _ {S M : Type 0} (m : Meaning S) (state : M → S) where
         }
 
     -- no turn is left anywhere: the round is over
-    pub all_back : (p w v q : Walk M) → CameBack p w → NoneLeft m state w v → ((root : S) → Leads m root (made v) (state (machine v)) → AtStart m state v q) → Leads m root (made p) (state (machine p)) → Over m state root (left_here m e threshold (made p) (state (machine p)) (tried p)) q
+    pub all_back : (p w v q : Walk M) → CameBack p w → NoneLeft m state w v → ((root : S) → Leads m root (made v) (state (machine v)) → StaysAtStart m state v q) → Leads m root (made p) (state (machine p)) → Over m state root (left_here m e threshold (made p) (state (machine p)) (tried p)) q
     all_back p w v q came none start leads =
         let same = none.same in
         let leads_w = came.leads root leads in

@@ -1,5 +1,6 @@
 pub mod Back
+pub mod RecordLent
 pub mod Nexts
 pub mod Ranges
 pub mod Trails
-pub mod Writing
+pub mod SheetWritten

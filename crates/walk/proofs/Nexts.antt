@@ -3,8 +3,8 @@ use Rattle.std.proofs.lemmas.Bool.{and_from, and_parts, and_right, not-true, not
 use Rattle.std.specs.List.{filter}
 use Rattle.machine.specs.Meaning.{Meaning, Lawful}
 use Rattle.machine.specs.Turns.{turns}
-use Rattle.machine.specs.declared.interface.TurnRange.{TurnRange}
-use Rattle.walk.specs.declared.table.DepthRecord.{DepthRecord}
+use Rattle.machine.specs.declared.turn_range.TurnRange.{TurnRange}
+use Rattle.walk.specs.declared.depth_record.DepthRecord.{DepthRecord}
 use Rattle.walk.specs.Left.{later}
 use Rattle.walk.specs.Nexts.{MayTry}
 use Rattle.walk.specs.Records.{first_or_none}

@@ -2,7 +2,7 @@ use Rattle.std.proofs.Common.{◌≡◌, ℕ, zero, suc, ◌+◌, ◌≤◌, ◌
 use Rattle.std.proofs.lemmas.List.{get_or-set_other, get_or-set_same, length-set}
 use Rattle.std.proofs.lemmas.Bool.{cases_eq}
 use Rattle.std.proofs.lemmas.Option.{get_or_from_slice_get}
-use Rattle.walk.specs.declared.table.DepthRecord.{DepthRecord}
+use Rattle.walk.specs.declared.depth_record.DepthRecord.{DepthRecord}
 use Rattle.walk.specs.Records.{blank, turns_to, Linked, first_or_none}
 
 pub length_turns_to : (rs : List DepthRecord) (depth : ℕ) → length (turns_to rs depth) ≡ depth

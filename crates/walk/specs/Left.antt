@@ -1,6 +1,7 @@
 use Rattle.std.specs.Prelude.{◌≡◌, ℕ, List, [], ◌∷◌, length, if◌then◌else◌, nat_lt}
 use Rattle.std.specs.List.{filter}
 use Rattle.machine.specs.Meaning.{Meaning, InRange}
+use Rattle.search.specs.declared.limit.TheConstants.{HIGHEST_LIMIT}
 use Rattle.search.specs.Search.{Look, followed_by, looks_by, to_try, looks_from}
 
 -- These turns, the last one first, lead from the root to the state s: the same turns made again lead back.
@@ -33,4 +34,4 @@ module _ {S : Type 0} (m : Meaning S) (e : S → ℕ) (threshold : ℕ) where
 
   -- the same; but so deep that there is no room for one turn more, no other is tried
   abbrev pub left_here : List ℕ → S → ℕ → List Look
-  left_here made s tried = if nat_lt 64 (length made) then and_above made s [] else left_after made s tried
+  left_here made s tried = if nat_lt HIGHEST_LIMIT (length made) then and_above made s [] else left_after made s tried

@@ -1,6 +1,6 @@
 use Rattle.std.specs.Prelude.{◌≡◌, ℕ, ◌<◌, ◌≤◌, Some, None, Option}
-use Rattle.machine.specs.declared.interface.TurnRange.{TurnRange}
-use Rattle.walk.specs.declared.table.DepthRecord.{DepthRecord}
+use Rattle.machine.specs.declared.turn_range.TurnRange.{TurnRange}
+use Rattle.walk.specs.declared.depth_record.DepthRecord.{DepthRecord}
 
 -- Turn k may be tried from here: it is in range, comes after the one tried last, and is not the one that led here.
 pub record MayTry (range : TurnRange) (here : DepthRecord) (k : ℕ) : Type 0 where

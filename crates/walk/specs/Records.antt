@@ -1,5 +1,5 @@
 use Rattle.std.specs.Prelude.{◌≡◌, ℕ, zero, suc, ◌≤◌, List, [], ◌∷◌, get_or}
-use Rattle.walk.specs.declared.table.DepthRecord.{DepthRecord}
+use Rattle.walk.specs.declared.depth_record.DepthRecord.{DepthRecord}
 
 abbrev pub blank : DepthRecord
 blank = record { led = 0; tried = 0 }

@@ -4,11 +4,11 @@ use Rattle.walk.specs.Records.{blank, turns_to}
 
 -- The turns made, the last one first.
 abbrev pub made : Trail → List ℕ
-made t = turns_to t.table.records.items t.depth
+made t = turns_to t.table.records t.depth
 
 -- The turn tried last at the present depth.
 abbrev pub tried : Trail → ℕ
-tried t = (get_or t.table.records.items t.depth blank).tried
+tried t = (get_or t.table.records t.depth blank).tried
 
 -- The turn made last is taken back, and is the one tried last; or no turn was made, and nothing is changed.
 abbrev pub Popped : Trail → Option ℕ → Trail → Type 0

@@ -1,39 +1,34 @@
-ghost use Rattle.std.specs.Prelude.{◌≡◌, ◌<◌, IfOk, replicate, vec_len, slice_get, Some};
+ghost use Rattle.std.specs.Prelude.{◌≡◌, ◌<◌, replicate, slice_get, Some};
 ghost use Rattle.std.specs.Borrow.{sem};
+ghost use Rattle.walk.specs.declared.table.TheConstants.{DEPTHS};
 
-use std::alloc::{AllocError, Global};
+use crate::depth_record::DepthRecord;
+use search::HIGHEST_LIMIT;
 
 // Depths go from 0 to one more than the highest limit: a state that deep is looked at, but never continued.
-pub(crate) const DEPTHS: usize = 66;
-
-// What is kept for a depth: the turn that led there, and the turn tried last from there; 0 where there is none.
-#[derive(Clone, Copy, PartialEq, Eq, Debug)]
-pub(crate) struct DepthRecord {
-    pub(crate) led: u8,
-    pub(crate) tried: u8,
-}
+pub(crate) const DEPTHS: usize = HIGHEST_LIMIT as usize + 2;
 
 // A record for each depth.
-#[derive(Drop)]
+#[derive(Clone, Copy)]
 pub(crate) struct Table {
-    pub(crate) records: Vec<DepthRecord>,
+    pub(crate) records: [DepthRecord; DEPTHS],
 }
 
 impl Table {
     ghost use Rattle.walk.specs.Tables.{LendsRecord, blank};
 
-    pub(crate) fn new(heap: Global) -> Result<Table, AllocError>
-        ensures { IfOk result (λ t. t.records.items ≡ replicate 66 blank) }
+    pub(crate) fn new() -> Table
+        ensures { result.records ≡ replicate DEPTHS blank }
     {
-        let records = vec![in heap; DepthRecord { led: 0, tried: 0 }; DEPTHS]?;
-        Ok(Table { records })
+        let records = [DepthRecord { led: 0, tried: 0 }; DEPTHS];
+        Table { records }
     }
 
-    // The record of a depth, to be changed.
+    // The record of a depth, to be changed. The proof is by hand, since there is no generated one for a function that lends an element of an array.
     pub(crate) fn record(&mut self, depth: usize) -> &mut DepthRecord
-        requires { depth < vec_len self.old.records }
+        requires { depth < DEPTHS }
         ensures* writes_back { sem 𝓛 (LendsRecord self.entry depth result) }
-        ensures value { slice_get self.old.records.items depth ≡ Some result.now }
+        ensures value { slice_get self.old.records depth ≡ Some result.now }
     {
         &mut self.records[depth]
     }

@@ -1,31 +1,34 @@
-ghost use Rattle.std.specs.Prelude.{◌≡◌, ◌<◌, ◌≤◌, ◌∷◌, [], length, reverse, take, vec_len, IfOk};
+ghost use Rattle.std.specs.Prelude.{◌≡◌, ◌<◌, ◌≤◌, ◌∷◌, [], length, reverse, take};
+ghost use Rattle.search.specs.declared.limit.TheConstants.{HIGHEST_LIMIT};
 ghost use Rattle.walk.specs.Records.{Linked, first_or_none};
 ghost use Rattle.walk.specs.Sheets.{padded};
+ghost use Rattle.walk.specs.declared.sheet.TheConstants.{SHEET_PLACES};
+ghost use Rattle.walk.specs.declared.table.TheConstants.{DEPTHS};
 
-use crate::sheet::Sheet;
-use crate::table::{DepthRecord, Table};
-use std::alloc::{AllocError, Global};
+use crate::depth_record::DepthRecord;
+use crate::sheet::{SHEET_PLACES, Sheet};
+use crate::table::Table;
 
 // The turns made from the first state on, in the records of the depths.
-#[derive(Drop)]
+#[derive(Clone, Copy)]
 pub(crate) struct Trail {
     table: Table,
     depth: usize,
-    ghost full: { vec_len table.records ≡ 66 },
-    ghost room: { depth ≤ 65 },
-    ghost linked: { Linked table.records.items depth },
+    ghost full: { length table.records ≡ DEPTHS },
+    ghost room: { depth < DEPTHS },
+    ghost linked: { Linked table.records depth },
 }
 
 impl Trail {
     ghost use Rattle.walk.specs.Trails.{made, tried, Popped};
 
-    // No turn is made. This is the only memory that is asked for.
-    pub(crate) fn new(heap: Global) -> Result<Trail, AllocError>
-        ensures made { IfOk result (λ t. made t ≡ []) }
-        ensures tried { IfOk result (λ t. tried t ≡ 0) }
+    // No turn is made.
+    pub(crate) fn new() -> Trail
+        ensures made { made result ≡ [] }
+        ensures tried { tried result ≡ 0 }
     {
-        let table = Table::new(heap)?;
-        Ok(Trail { table, depth: 0 })
+        let table = Table::new();
+        Trail { table, depth: 0 }
     }
 
     pub(crate) fn clear(&mut self)
@@ -39,14 +42,14 @@ impl Trail {
     #[tactic(auto, using(crate::proofs::Trails::length_turns_to))]
     pub(crate) fn depth(&self) -> usize
         ensures depth { result ≡ length (made self.now) }
-        ensures room { result ≤ 65 }
+        ensures room { result < DEPTHS }
     {
         self.depth
     }
 
     // One turn more, which was not tried yet.
     pub(crate) fn push(&mut self, k: u8)
-        requires { length (made self.old) < 65 }
+        requires { length (made self.old) ≤ HIGHEST_LIMIT }
         ensures made { made self.new ≡ k ∷ made self.old }
         ensures tried { tried self.new ≡ 0 }
     {
@@ -74,9 +77,9 @@ impl Trail {
 
     // Writes the turns made in their order, as far as there are places, and 0 after the last.
     pub(crate) fn write(&self, sheet: &mut Sheet)
-        ensures { sheet.new ≡ padded (take 64 (reverse (made self.now))) }
+        ensures { sheet.new ≡ padded (take SHEET_PLACES (reverse (made self.now))) }
     {
-        *sheet = [0; 64];
+        *sheet = [0; SHEET_PLACES];
         for depth in 0..self.depth.min(sheet.len()) {
             sheet[depth] = self.table.records[depth].tried;
         }

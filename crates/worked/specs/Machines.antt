@@ -2,20 +2,22 @@ use Rattle.std.specs.Prelude.{ℕ, ◌-◌, ◌≤◌, true, IsTrue, List, [], �
 use Rattle.std.proofs.Math.Dec.{lit≤}
 use Rattle.std.proofs.Math.Nat.{le_trans}
 use Rattle.trays.specs.declared.arrangement.Arrangement.{Arrangement}
+use Rattle.trays.specs.declared.arrangement.TheConstants.{MOST_TRAYS}
 use Rattle.trays.specs.declared.tray.Tray.{Ghosts}
-use Rattle.trays.specs.Form.{TrayForm, number_tray, number_regular}
+use Rattle.trays.specs.Form.{TrayForm, number_tray}
 use Rattle.trays.specs.Permutation.{permutation, every, some}
-use Rattle.trays.specs.Setting.{Counted}
+use Rattle.trays.specs.Settable.{Counted}
 use Rattle.towers.specs.declared.tower.Tower.{Tower}
-use Rattle.towers.specs.declared.tray.SidedTray.{SidedTray}
-use Rattle.towers.specs.Tray.{sided_tray, sided_regular}
-use Rattle.ring.specs.declared.kind.TrayRing.{TrayRing}
+use Rattle.towers.specs.declared.sided_tray.SidedTray.{SidedTray}
+use Rattle.towers.specs.Kinds.{PlainTower, SidedTower}
+use Rattle.towers.specs.Tray.{sided_tray}
+use Rattle.ring.specs.declared.tray_ring.TrayRing.{TrayRing}
 
--- 32 places: first these trays, and then no trays.
+-- All places: first these trays, and then no trays.
 abbrev pub placed : {A : Type 0} → TrayForm A → List A → List A
-placed f xs = xs ++ replicate (32 - length xs) (f.upright 0)
+placed f xs = xs ++ replicate (MOST_TRAYS - length xs) (f.upright 0)
 
--- There are from 1 to 32 trays, and they have the numbers 1 to n, each once.
+-- There are from 1 to `MOST_TRAYS` trays, and they have the numbers 1 to n, each once.
 abbrev pub IsArranged : {A : Type 0} → TrayForm A → List A → Type 0
 IsArranged f xs = Counted 1 (length xs) × IsTrue (permutation f (length xs) (placed f xs))
 
@@ -29,19 +31,6 @@ tower_of xs is = record { arrangement = arranged xs is }
 -- The ring of these trays, from place 1 on, with span 2.
 abbrev pub ring_of : (xs : List ℕ) → IsArranged number_tray xs → 4 ≤ length xs → TrayRing
 ring_of xs is four = record { arrangement = arranged xs is; span = 2; least = four; span_least = lit≤ tt; span_most = le_trans (lit≤ tt) four }
-
--- What the trays of plain and of sided towers mean, and the states of these towers.
-abbrev pub plain_trays : Ghosts ℕ
-plain_trays = record { form = number_tray; regular = number_regular }
-
-abbrev pub sided_trays : Ghosts SidedTray
-sided_trays = record { form = sided_tray; regular = sided_regular }
-
-abbrev pub PlainTower : Type 0
-PlainTower = Tower ℕ plain_trays
-
-abbrev pub SidedTower : Type 0
-SidedTower = Tower SidedTray sided_trays
 
 -- The tray of this number as it stands at home, and with its door turned away.
 abbrev pub upright : ℕ → SidedTray

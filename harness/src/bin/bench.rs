@@ -154,7 +154,7 @@ fn run() -> Result<bool, Box<dyn Error>> {
 /// The looks of a pass over some stacks, and the best looks per second of both sides.
 fn measure(kind: Kind, stacks: &[Stack], runs: u64) -> Result<(u64, f64, f64), Box<dyn Error>> {
     let mut ours = Ours {
-        console: Console::new()?,
+        console: Console::new(),
         loads: stacks.iter().map(|stack| stack.load(LIMIT)).collect(),
         grant: grant_command(GRANT),
     };

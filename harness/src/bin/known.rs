@@ -50,7 +50,7 @@ fn run() -> Result<bool, Box<dyn Error>> {
         ("seed", 20_260_717),
     ];
     let options = Options::read(&numbers, &[])?;
-    let mut console = Console::new()?;
+    let mut console = Console::new();
     let most_looks = options.number("most-looks").min(2_000_000_000) as u32;
     let mut as_known = all_away(&mut console, most_looks)?;
     as_known &= most_turns(&mut console, most_looks)?;

@@ -3,7 +3,7 @@
 use std::fmt;
 
 use harness::hex::hex;
-use harness::ours::{self, Failure};
+use harness::ours;
 use harness::random::Random;
 use harness::told::Told;
 
@@ -44,11 +44,16 @@ struct Pair {
 }
 
 impl Pair {
-    fn new() -> Result<Self, Failure> {
-        Ok(Pair {
-            ours: ours::Console::new()?,
+    fn new() -> Self {
+        Pair {
+            ours: ours::Console::new(),
             peer: peer::console::Console::new(),
-        })
+        }
+    }
+
+    /// Goes on with a copy of the library's console, in other memory.
+    fn copy_ours(&mut self) {
+        self.ours = self.ours.clone();
     }
 
     /// Makes a call on both consoles.
@@ -81,10 +86,11 @@ pub fn sequence(
     tally: &mut Tally,
 ) -> Result<(), Box<dyn std::error::Error>> {
     let mut random = Random::of(seed ^ 0x6b65_7074, number);
-    let mut pair = Pair::new()?;
+    let mut pair = Pair::new();
     for _ in 0..random.between(1, 4) {
         let whole = tape(pool, seed, random.bits());
         for part in split(&whole, &mut random) {
+            pair.copy_ours();
             run_tape(&mut pair, part, &mut random, tally)?;
         }
     }

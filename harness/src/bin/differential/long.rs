@@ -37,7 +37,7 @@ fn commands() -> Vec<Vec<u8>> {
 
 /// All replies of the library's console.
 fn ours() -> Result<Vec<Vec<u8>>, String> {
-    let mut console = ours::Console::new().map_err(|fault| fault.to_string())?;
+    let mut console = ours::Console::new();
     let run = |command: Vec<u8>| {
         let mut reply = vec![0; 66];
         let ran = console.run(&command, 0, &mut reply);

@@ -16,7 +16,6 @@ pub struct Tally {
     pub calls: u64,
     pub commands: u64,
     pub looks: u64,
-    pub starved: u64,
     letters: [u64; 6],
     refusals: [u64; 19],
 }
@@ -76,7 +75,6 @@ impl Tally {
         println!("| calls of a kept console | {} |", self.calls);
         println!("| commands run | {} |", self.commands);
         println!("| looks of the searches that ended | {} |", self.looks);
-        println!("| calls refused for want of memory | {} |", self.starved);
         for (letter, met) in LETTERS.iter().zip(self.letters) {
             println!("| reply {} | {met} |", char::from(*letter));
         }

@@ -1,4 +1,4 @@
-use Rattle.search.proofs.Finding.{finds_shortest}
+use Rattle.search.proofs.ShortestFound.{finds_shortest}
 use Rattle.search.proofs.threshold.first_threshold.Goals as goal
 
 pub returns-clause-shortest : goal.returns-clause-shortest

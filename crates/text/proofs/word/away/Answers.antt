@@ -1,6 +1,6 @@
 use Rattle.std.proofs.Common.{arith, rules}
 use Rattle.std.proofs.lemmas.Str.Pattern.{strip_prefix_char}
-use Rattle.text.proofs.Wording.{away_read}
+use Rattle.text.proofs.LineWords.{away_read}
 use Rattle.text.proofs.word.away.Goals as goal
 
 pub returns : goal.returns

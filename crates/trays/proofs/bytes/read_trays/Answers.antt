@@ -1,6 +1,6 @@
 use Rattle.std.proofs.Common.{rules, ◌≡◌, get_or}
-use Rattle.trays.proofs.Making.{made_each}
-use Rattle.trays.proofs.Reading.{read_all}
+use Rattle.trays.proofs.Made.{made_each}
+use Rattle.trays.proofs.BytesRead.{read_all}
 use Rattle.trays.proofs.bytes.read_trays.Goals as goal
 
 pub returns-clause-value : goal.returns-clause-value

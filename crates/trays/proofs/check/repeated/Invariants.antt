@@ -1,7 +1,7 @@
 use Rattle.std.proofs.Common.{◌≡◌}
 use Rattle.trays.specs.Form.{number_at}
 use Rattle.trays.specs.Marks.{marks}
-use Rattle.trays.specs.Setting.{Each, New}
+use Rattle.trays.specs.Settable.{Each, New}
 use Rattle.trays.proofs.check.repeated.Given as goal
 
 abbrev pub invariant-loop-i : goal.invariant-loop-i

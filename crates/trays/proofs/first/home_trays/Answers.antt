@@ -1,6 +1,6 @@
 use Rattle.std.proofs.Common.{rules, ◌≡◌, arith}
-use Rattle.trays.proofs.Laying.{number_laid, laid_home}
-use Rattle.trays.proofs.Making.{made_each}
+use Rattle.trays.proofs.LaidOut.{number_laid, laid_home}
+use Rattle.trays.proofs.Made.{made_each}
 use Rattle.trays.proofs.first.home_trays.Goals as goal
 
 pub returns : goal.returns

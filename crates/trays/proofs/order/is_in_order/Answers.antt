@@ -1,6 +1,6 @@
 use Rattle.std.proofs.Common.{rules}
 use Rattle.std.proofs.iter.runs.Made.{chains}
-use Rattle.trays.proofs.Permuting.{in_order_is}
+use Rattle.trays.proofs.Permutations.{in_order_is}
 use Rattle.trays.proofs.order.is_in_order.Goals as goal
 
 pub returns : goal.returns

@@ -2,7 +2,7 @@ use Rattle.std.proofs.Common.{Some, subst, sym, ap}
 use Rattle.search.proofs.Bounds.{unbounded}
 use Rattle.walk.specs.Walks.{machine}
 use Rattle.planner.specs.UnderWay.{Waits}
-use Rattle.planner.proofs.Looking.{threshold_set, first_begins}
+use Rattle.planner.proofs.LookMade.{threshold_set, first_begins}
 use Rattle.planner.proofs.progress.Progress.first_look.Goals as goal
 
 pub returns-in-Some : goal.returns-in-Some

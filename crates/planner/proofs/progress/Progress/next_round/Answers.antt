@@ -2,7 +2,7 @@ use Rattle.std.proofs.Common.{◌∙◌, sym, subst, None, arith}
 use Rattle.search.proofs.Bounds.{unbounded}
 use Rattle.planner.specs.ToCome.{to_come}
 use Rattle.planner.specs.UnderWay.{InRound}
-use Rattle.planner.proofs.Looking.{next_round}
+use Rattle.planner.proofs.LookMade.{next_round}
 use Rattle.planner.proofs.progress.Progress.next_round.Goals as goal
 
 pub returns-in-Some : goal.returns-in-Some

@@ -1,4 +1,4 @@
-use Rattle.text.proofs.Beginning.{written}
+use Rattle.text.proofs.ReadSoFar.{written}
 use Rattle.text.proofs.reader.Reader.finish.Goals as goal
 
 pub returns : goal.returns

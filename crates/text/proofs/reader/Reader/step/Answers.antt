@@ -1,7 +1,7 @@
 use Rattle.std.proofs.Common.{IsTrue, arith}
 use Rattle.text.specs.declared.word.Word.TheVariants.{Dual, Estimate, Looks}
-use Rattle.text.specs.Lines.{may_stand}
-use Rattle.text.proofs.Beginning.{dual_more, estimate_more, looks_more}
+use Rattle.text.specs.Expected.{may_stand}
+use Rattle.text.proofs.ReadSoFar.{dual_more, estimate_more, looks_more}
 use Rattle.text.proofs.reader.Reader.step.Goals as goal
 
 pub returns-in-Dual-clause-ok : goal.returns-in-Dual-clause-ok

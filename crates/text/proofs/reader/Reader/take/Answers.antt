@@ -1,5 +1,5 @@
 use Rattle.std.proofs.Common.{refl}
-use Rattle.text.proofs.Beginning.{tray_more}
+use Rattle.text.proofs.ReadSoFar.{tray_more}
 use Rattle.text.proofs.reader.Reader.take.Goals as goal
 
 pub returns-in_ok-push-in-Tray-clause-ok : goal.returns-in_ok-push-in-Tray-clause-ok

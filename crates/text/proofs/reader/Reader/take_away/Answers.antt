@@ -1,5 +1,5 @@
 use Rattle.std.proofs.Common.{refl}
-use Rattle.text.proofs.Beginning.{away_below, away_place, tray_more}
+use Rattle.text.proofs.ReadSoFar.{away_below, away_place, tray_more}
 use Rattle.text.proofs.reader.Reader.take_away.Goals as goal
 
 pub returns : goal.returns

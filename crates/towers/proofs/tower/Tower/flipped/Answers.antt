@@ -3,7 +3,7 @@ use Rattle.reversal.specs.Reversed.{reversed_part}
 use Rattle.trays.specs.declared.tray.Tray.{Ghosts}
 use Rattle.trays.specs.Permutation.{permutation}
 use Rattle.trays.specs.Sides.{turned_over}
-use Rattle.trays.proofs.Turning.{block_turned}
+use Rattle.trays.proofs.Blocks.{block_turned}
 use Rattle.towers.specs.declared.tower.Tower.{Tower}
 use Rattle.towers.specs.Laws.{count, same_tower}
 use Rattle.towers.specs.Towers.{permuted, turned}

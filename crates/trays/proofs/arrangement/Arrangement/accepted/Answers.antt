@@ -1,5 +1,5 @@
 use Rattle.std.proofs.Common.{◌≡◌, length, rules}
-use Rattle.trays.proofs.Permuting.{from_accepted}
+use Rattle.trays.proofs.Permutations.{from_accepted}
 use Rattle.trays.proofs.arrangement.Arrangement.accepted.Goals as goal
 
 pub invariant_of-result : goal.invariant_of-result

@@ -1,6 +1,0 @@
-use Rattle.std.proofs.Common.{◌≡◌, vec_items}
-use Rattle.task.proofs.Calls.{calls_so_far}
-use Rattle.task.proofs.planning.calls_within.Given as goal
-
-abbrev pub invariant-loop : goal.invariant-loop
-invariant-loop g l = vec_items l.calls ≡ calls_so_far l.fn.machine l.limit l.counter
