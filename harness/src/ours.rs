@@ -10,7 +10,7 @@ const NO_ROOM: u8 = 22;
 /// What the memory of a console is made of.
 type Word = u64;
 
-/// What one call ran: the next place, and the number of reply bytes.
+/// What came of one call: where the next command is, and how many bytes were told.
 #[repr(C)]
 #[derive(Clone, Copy, Debug, Default, PartialEq, Eq)]
 pub struct Ran {
