@@ -1,4 +1,5 @@
-use Rattle.std.specs.Prelude.{◌≡◌, ℕ, true, false, List, [], ◌∷◌, Ok, Err, Result}
+use Rattle.std.specs.Prelude.{◌≡◌, ℕ, ◌&&◌, nat_le, Bool, true, false, List, [], ◌∷◌, Ok, Err, Result}
+use Rattle.std.specs.List.{prefix_len}
 use Rattle.machine.specs.declared.fault.Fault.{Fault}
 use Rattle.machine.specs.declared.fault.Fault.TheVariants.{NoSuchTurn}
 use Rattle.machine.specs.declared.ending.Ending.{Ending}
@@ -28,3 +29,15 @@ pub record Follows {S : Type 0} (m : Meaning S) (s : S) (ks : List ℕ) (states 
 abbrev pub Made : {S U : Type 0} → Meaning S → S → List ℕ → List S → S → Result U Fault → Type 0
 Made m s ks states t (Err f) = Follows m s ks states (Refused f)
 Made m s ks states t (Ok _) = (m.home t ≡ true → Follows m s ks states Home) × (m.home t ≡ false → Follows m s ks states NotHome)
+
+-- Whether a turn lies between these two, both included.
+abbrev pub within : ℕ → ℕ → ℕ → Bool
+within lowest highest k = nat_le lowest k && nat_le k highest
+
+-- How many turns of the list stand before the first that is not between these two.
+abbrev pub leading_in : ℕ → ℕ → List ℕ → ℕ
+leading_in lowest highest ks = prefix_len (within lowest highest) ks
+
+-- How many turns of the list stand before the first that the machine does not have at s.
+abbrev pub leading : {S : Type 0} → Meaning S → S → List ℕ → ℕ
+leading m s ks = leading_in (m.lowest s) (m.highest s) ks

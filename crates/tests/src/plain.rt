@@ -142,3 +142,19 @@ fn long_list_followed(rt: HostRuntime) -> Result<(), Fail> {
     assert_eq!(rt; trace.states.len(), 1001);
     Ok(())
 }
+
+// However long the list is, room is asked for as many turns as are made.
+#[test]
+fn room_for_turns_made(rt: HostRuntime) -> Result<(), Fail> {
+    let t = tower::<u8>(2, &[2, 1])?;
+    let mut turns = [2; 1001];
+    turns[3] = 3;
+    let trace = follow(rt.alloc(), t, &turns)?;
+    assert_eq!(rt; trace.ending, Ending::Refused(Fault::NoSuchTurn));
+    assert_eq!(rt; trace.states.len(), 3);
+    assert!(rt; trace.states.capacity() < 1000);
+    turns[0] = 1;
+    let refused = follow(rt.alloc(), t, &turns)?;
+    assert_eq!(rt; refused.states.capacity(), 0);
+    Ok(())
+}

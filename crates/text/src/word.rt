@@ -43,10 +43,9 @@ impl From<&str> for Word {
             "plan" => Word::Plan,
             "limit" => Word::Limit,
             "looks" => Word::Looks,
-            _ => match (text.parse(), text.parse()) {
-                (Ok(n), _) => Word::Number(n),
-                (_, Ok(n)) => Word::Large(n),
-                _ => away(text).map_or(Word::Other, Word::Away),
+            _ => match text.parse::<u32>() {
+                Ok(n) => u8::try_from(n).map_or(Word::Large(n), Word::Number),
+                Err(_) => away(text).map_or(Word::Other, Word::Away),
             },
         }
     }

@@ -35,18 +35,20 @@ impl<'a> Line<'a> {
     // Says where a line is not understood, and what was expected there.
     fn explain(&self, rt: &HostRuntime, at: usize, expected: Expected) -> io::Result<()> {
         let place = at.saturating_add(1);
+        let or_help = if expected == Expected::Kind {
+            ", or `help` alone"
+        } else {
+            ""
+        };
         match self.word(at) {
-            Some(word) => print!(rt; "{self}not understood at word {place}, `{word}`")?,
-            None => print!(rt;
-                "{self}not understood: it ends after {}",
+            Some(word) => println!(rt;
+                "{self}not understood at word {place}, `{word}`: expected {expected}{or_help}"
+            ),
+            None => println!(rt;
+                "{self}not understood: it ends after {}: expected {expected}{or_help}",
                 Counted(at, "word")
-            )?,
+            ),
         }
-        print!(rt; ": expected {expected}")?;
-        if expected == Expected::Kind {
-            print!(rt; ", or `help` alone")?;
-        }
-        println!(rt)
     }
 
     // Says why a machine of this kind was not set, and at which tray. The trays are the words after the kind, up to `count`.

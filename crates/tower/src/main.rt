@@ -2,15 +2,18 @@
 
 #![tactic(auto)]
 
+mod after_name;
 mod block;
 mod counted;
 mod help;
 mod line;
 mod listed;
+mod other_turns;
 mod reason;
 mod row;
 mod shown;
 
+use after_name::AfterName;
 use help::show_help;
 use line::Line;
 use std::io::{BufRead, BufReader};
@@ -32,7 +35,7 @@ fn run(rt: &HostRuntime) -> anyhow::Result<()> {
 // The arguments, with a space before each.
 fn arguments(rt: &HostRuntime) -> anyhow::Result<String> {
     let mut line = String::new(rt.alloc());
-    for argument in env::args(rt)?.skip(1) {
+    for argument in env::args(&(AfterName(rt), rt.alloc()))? {
         line.push(' ')?;
         line.push_str(argument.as_str())?;
     }

@@ -2,15 +2,16 @@ use crate::block::Block;
 use crate::counted::Counted;
 use crate::line::Line;
 use crate::listed::Listed;
+use crate::other_turns::OtherTurns;
 use crate::reason::Reason;
 use crate::row::Row;
-use machine::{Ending, Fault, Trace, TurnRange};
+use machine::{Ending, Fault, Trace};
 use outcome::{Completed, Done, Estimates, Outcome, Planned};
 use std::fmt::Display;
 use std::{io, iter};
 use trays::{Kind, Settable, Tray};
 
-// Prints what came of a line, by the kind of its machine.
+// Prints what came of a line, by the kind of its machine. Each line that is written is one `println`, and so one write where it is short: what others write to the same file does not stand in it.
 pub(crate) fn show(rt: &HostRuntime, line: Line<'_>, outcome: &Outcome) -> io::Result<()> {
     match outcome {
         Outcome::Plain(completed) => show_completed(rt, line, Kind::Plain, None, completed),
@@ -57,11 +58,12 @@ where
 {
     // Prints the machine, and what was done with it.
     fn all(&self, rt: &HostRuntime, done: &Done<M>) -> io::Result<()> {
-        print!(rt; "{}{}", self.kind, Listed(self.start.trays()))?;
-        if let Some(k) = self.span {
-            print!(rt; " span {k}")?;
+        let kind = self.kind;
+        let trays = Listed(self.start.trays());
+        match self.span {
+            Some(k) => println!(rt; "{kind}{trays} span {k}")?,
+            None => println!(rt; "{kind}{trays}")?,
         }
-        println!(rt)?;
         match done {
             Done::Followed { turns, trace } => self.followed(rt, turns, trace),
             Done::Mirrored(dual) => println!(rt; "dual:{}", Listed(dual.trays())),
@@ -98,16 +100,11 @@ where
         let line = self.line;
         let kind = self.kind;
         let number = fault.number();
-        print!(rt; "{line}refused {number}")?;
-        if let Some(k) = turn {
-            print!(rt; " at turn {k}")?;
-        }
-        print!(rt; ": {}", Reason { kind, fault })?;
-        let TurnRange { lowest, highest } = self.start.range();
-        if lowest <= highest {
-            println!(rt; ", but those from {lowest} to {highest}")
-        } else {
-            println!(rt; ", nor any other")
+        let reason = Reason { kind, fault };
+        let others = OtherTurns(self.start.range());
+        match turn {
+            Some(k) => println!(rt; "{line}refused {number} at turn {k}: {reason}{others}"),
+            None => println!(rt; "{line}refused {number}: {reason}{others}"),
         }
     }
 

@@ -1,5 +1,6 @@
-use Rattle.std.proofs.Common.{◌≡◌, ℕ, suc, ◌+◌, ◌<◌, ◌≤◌, if◌then◌else◌, nat_lt, List, length, ap, ◌∙◌, add-one, arith}
-use Rattle.std.proofs.lemmas.Bool.{cond-true, cond-false, lt-ltb, le-ltb}
+use Rattle.std.proofs.Common.{◌≡◌, ℕ, suc, ◌+◌, ◌-◌, ◌<◌, ◌≤◌, ◌++◌, if◌then◌else◌, nat_lt, List, length, drop, replicate, sym, ap, ◌∙◌, ⊎_elim, add-one, arith}
+use Rattle.std.proofs.lemmas.Bool.{cases_lt, cond-true, cond-false, lt-ltb, le-ltb}
+use Rattle.std.proofs.lemmas.List.{get_or_append_left, get_or-append_right, get_or-drop, get_or-replicate, length-append, length-drop, length-replicate}
 use Rattle.trays.specs.AtHome.{AtHome}
 use Rattle.trays.specs.Form.{TrayForm, Regular, number_at, tray_at}
 use Rattle.trays.proofs.Permutations.{Ordered, first_in_order}
@@ -22,3 +23,20 @@ laid_home f reg n m xs same high long each =
       };
       home = (first_in_order f reg n xs (omega arith)).1 done;
     }
+
+-- Trays that are laid out up to place n stand at home with no trays after them.
+pub laid_then_none : {A : Type 0} (f : TrayForm A) → Regular f → (n m : ℕ) (xs : List A) (none : A) → m ≡ n → n ≤ 32 → length xs ≡ m → none ≡ f.upright 0 → ((k : ℕ) → k < m → tray_at f xs k ≡ f.upright (k + 1)) → AtHome f n (xs ++ drop m (replicate 32 none))
+laid_then_none f reg n m xs none same high long is each =
+    let rest = drop m (replicate 32 none) in
+    let tail = length-drop m (replicate 32 none) in
+    let both = length-append xs rest in
+    laid_home f reg n m (xs ++ rest) same high (omega (arith, length-replicate 32 none)) (λ k lt.
+    ⊎_elim
+    (λ (within : k < m). get_or_append_left xs rest (f.upright 0) k (omega arith) ∙ each k within ∙ ap f.upright (sym (cond-true (nat_lt k m) (k + 1) 0 (lt-ltb k m within))))
+    (λ (past : m ≤ k).
+    get_or-append_right xs rest m k (f.upright 0) long past
+    ∙ get_or-drop m (replicate 32 none) (k - m) (f.upright 0)
+    ∙ get_or-replicate 32 (m + (k - m)) none (f.upright 0) (omega arith)
+    ∙ is
+    ∙ ap f.upright (sym (cond-false (nat_lt k m) (k + 1) 0 (le-ltb k m past))))
+    (cases_lt k m))

@@ -13,7 +13,7 @@ pub record Permutation {A : Type 0} (f : TrayForm A) (n : ℕ) (xs : List A) : T
   pub apart : (i j : ℕ) → i < n → j < n → number_at f xs i ≡ number_at f xs j → i ≡ j
   pub blank : (i : ℕ) → n ≤ i → Blank f xs i
 
-every_decides : (n : ℕ) (p : ℕ → Bool) (P : ℕ → Type 0) → ((k : ℕ) → Decides (p k) (P k)) → Decides (every n p) ((k : ℕ) → k < n → P k)
+pub every_decides : (n : ℕ) (p : ℕ → Bool) (P : ℕ → Type 0) → ((k : ℕ) → Decides (p k) (P k)) → Decides (every n p) ((k : ℕ) → k < n → P k)
 unfolding every
 every_decides n p P each = Decides-below_and p P (λ k. every k p) each refl (λ _. refl) n
 
@@ -93,7 +93,7 @@ module _ {A : Type 0} (f : TrayForm A) (reg : Regular f) where
   abbrev pub Ordered : ℕ → List A → Type 0
   Ordered n xs = (i : ℕ) → i < n → tray_at f xs i ≡ f.upright (suc i)
 
-  in_order_decides : (xs : List A) → Decides (in_order f xs) (Ordered (length xs) xs)
+  pub in_order_decides : (xs : List A) → Decides (in_order f xs) (Ordered (length xs) xs)
   unfolding in_order
   in_order_decides xs = every_decides (length xs) (λ i. f.stands (suc i) (tray_at f xs i)) (λ i. tray_at f xs i ≡ f.upright (suc i)) (λ i. reg.stands-upright (suc i) (tray_at f xs i))
 
