@@ -5,6 +5,7 @@ pub mod Held
 pub mod Inverses
 pub mod KindFacts
 pub mod LaidOut
+pub mod Made
 pub mod MarkCounts
 pub mod Neighbours
 pub mod Permutations

@@ -60,14 +60,18 @@ fn check_span(n: u8, span: Option<u8>) -> Result<(), Fault>
 // The next four take n and the trays each, since the prover does not find that a struct with an array of trays of a generic T, which a method would borrow, fits in memory.
 
 // The first of n places whose number is not from 1 to n.
+#[tactic(auto, using(crate::proofs::Places::taken))]
 fn misnumbered<T: Tray>(n: u8, trays: &[T; MOST_TRAYS]) -> Option<usize>
     requires { n ≤ MOST_TRAYS }
     ensures { Found (Numbered n (number_at T.form trays.now)) 0 n result }
 {
-    trays
-        .iter()
-        .take(n as usize)
-        .position(|tray| !(1..=n).contains(&tray.number()))
+    // A loop over the n trays: of a chain over the first n of all places the compiler makes code for each place.
+    for (i, tray) in trays[..n as usize].iter().enumerate() {
+        if !(1..=n).contains(&tray.number()) {
+            return Some(i);
+        }
+    }
+    None
 }
 
 // The first of n places whose number stands at an earlier place too. The numbers seen are bits of a word, as in `all_distinct`, which counts them.
