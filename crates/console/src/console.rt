@@ -28,7 +28,7 @@ pub const LONGEST_TAPE: usize = 4096;
 /// The grant of the command G.
 pub const GO_GRANT: u32 = 10_000;
 
-/// A planner of each kind, and the kind of the latest accepted load. Before the first load every planner is empty, so any kind would do.
+/// A planner of each kind, and the kind of the last load that was accepted. Before the first load every planner is empty, so any kind would do.
 #[derive(Clone, Copy)]
 pub struct Console {
     plain: Planner<PlainTower, DualLookup<LookAhead<Gaps>>>,

@@ -2,7 +2,7 @@ use Rattle.std.specs.Prelude.{◌≡◌, ℕ, ◌+◌, ◌≤◌, true, List, le
 use Rattle.machine.specs.Meaning.{Meaning, InRange, Brings}
 use Rattle.estimate.specs.declared.estimate.TheConstants.{HIGHEST_ESTIMATE}
 
--- The number is at most the length of every list of turns that brings the state home.
+-- No list of turns that brings the state home is shorter than the number.
 abbrev pub Admissible : {S : Type 0} → Meaning S → (S → ℕ) → Type 0
 Admissible {S} m e = (s : S) (ks : List ℕ) → Brings m ks s → e s ≤ length ks
 

@@ -33,7 +33,7 @@ breakpoint tray below = not (int_eq (signed below) (signed tray +ℤ pos 1))
 abbrev pub breakpoints : {b : Ghosts SidedTray} → Tower SidedTray b → ℕ
 breakpoints s = tower_count breakpoint s
 
--- Two neighbours in a ring of n trays differ neither by 1 nor by n - 1.
+-- The difference of two neighbours in a ring of n trays is not 1 and not n - 1.
 abbrev pub ring_gap : ℕ → ℕ → ℕ → Bool
 ring_gap n tray next = not (abs_diff tray next == 1 || abs_diff tray next == n - 1)
 

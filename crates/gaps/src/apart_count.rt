@@ -33,7 +33,7 @@ impl<T: Neighbour> SuccessorEstimate<Tower<T>> for ApartCount {
     }
 }
 
-/// How many trays of a plain tower differ by more than 1 from the one below.
+/// How many neighbours in a plain tower have numbers more than 1 apart.
 #[tactic(auto, using(crate::specs::Laws::gaps_consistent))]
 pub fn count_gaps(tower: &PlainTower) -> u8
     ensures consistent { Consistent ⟦<PlainTower as machine::Machine>⟧.meaning 1 gaps }

@@ -13,7 +13,7 @@ use estimate::{Estimate, SuccessorEstimate};
 use ring::TrayRing;
 use trays::{Settable, place_on};
 
-/// How many trays of a ring differ neither by 1 nor by n - 1 from the next one round.
+/// How many trays of a ring of n have a next one whose number is not 1 and not n - 1 away.
 #[tactic(auto, using(crate::proofs::Held::ring_long, crate::specs::Laws::ring_consistent))]
 pub fn count_ring_gaps(ring: &TrayRing) -> u8
     ensures consistent { Consistent ⟦<TrayRing as machine::Machine>⟧.meaning 2 ring_gaps }
@@ -24,7 +24,7 @@ pub fn count_ring_gaps(ring: &TrayRing) -> u8
     count_apart(trays, trays[0], |tray, next| is_ring_gap(n, tray, next))
 }
 
-// Whether two neighbours in a ring of n trays differ neither by 1 nor by n - 1.
+// Whether the difference of two neighbours in a ring of n trays is not 1 and not n - 1.
 fn is_ring_gap(n: u8, tray: u8, next: u8) -> bool
     ensures { result ≡ ring_gap n tray next }
 {

@@ -27,7 +27,7 @@ impl Neighbour for u8 {
     }
 }
 
-/// Two trays of a sided tower are apart where the one below is not greater by exactly 1: a breakpoint.
+/// Two trays of a sided tower are apart, which is a breakpoint, unless the lower one, with its sign, is the upper one plus 1.
 impl Neighbour for SidedTray {
     ghost apart = { breakpoint };
 

@@ -1,7 +1,7 @@
 use Rattle.std.specs.Prelude.{◌≡◌, ℕ, List, reverse}
 use Rattle.machine.specs.Meaning.{Meaning, Brings}
 
--- A list of turns brings s home exactly when the list read backwards brings t home.
+-- A list of turns brings s home if its reverse brings t home, and only then.
 abbrev pub Backwards : {S : Type 0} → Meaning S → S → S → Type 0
 Backwards m s t = (ks : List ℕ) → (Brings m ks s → Brings m (reverse ks) t) × (Brings m (reverse ks) t → Brings m ks s)
 

@@ -6,7 +6,7 @@ use crate::machine::Machine;
 pub trait Dual: Machine {
     ghost mirror: { Self.State → Self.State };
 
-    /// The dual of this machine. A list of turns brings this machine home exactly when the list read backwards brings the dual home.
+    /// The dual of this machine. A list of turns brings this machine home if its reverse brings the dual home, and only then.
     fn dual(&self) -> Self
         ensures { IsDual Self.meaning mirror (Self.state self.now) (Self.state result) };
 

@@ -10,11 +10,11 @@ pub enum Fault {
     TrayCount,
     /// The span of a ring is below 2 or above the number of trays.
     Span,
-    /// One of the first N tray numbers is 0 or above N.
+    /// Among the first N trays is one whose number is not from 1 to N.
     TrayNumber(usize),
     /// A tray number stands at an earlier place too.
     TrayRepeated(usize),
-    /// A tray byte after the first N is not 0.
+    /// A byte past the N trays is not 0.
     TrayBeyond(usize),
     /// The machine does not have this turn.
     NoSuchTurn,

@@ -3,7 +3,7 @@ ghost use Rattle.std.specs.Prelude.{◌≤◌, ◌↔◌, IsTrue};
 /// The highest number that a turn may have.
 pub const HIGHEST_TURN: u8 = 250;
 
-/// The turn numbers that a machine has, both ends included. A lowest number above the highest means that there are no turns.
+/// The turn numbers that a machine has, both ends included. Where the lowest is above the highest, there are no turns.
 // It is a struct, since a `RangeInclusive` is not `Copy`, and also says how far it was walked.
 #[derive(Clone, Copy, PartialEq, Eq, Debug)]
 pub struct TurnRange {

@@ -15,9 +15,9 @@ pub enum Fault {
     AtWork,
     /// 14: work, while no task is at work
     NoTask,
-    /// 15: the grant is 0 or above the highest
+    /// 15: the grant is not from 1 to the highest
     Grant,
-    /// 16: the grants since the load would pass their highest sum
+    /// 16: with this grant, the sum since the load would be above the highest
     GrantSum,
     /// 17: fetch, while no plan is found
     NotFound,

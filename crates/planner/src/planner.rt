@@ -58,7 +58,7 @@ impl<M: Copy, E: Copy> Copy for Planner<M, E> {}
 impl<M: Machine + Drop, E: Estimate<M> + Drop> Planner<M, E> {
     ghost use Rattle.planner.specs.Holds.{Holds, HoldsTask, Answers, Plays, Searching, Standing, report as report_of, estimate_of};
 
-    /// A planner with no task. It holds the machine until the first load, and no answer depends on it.
+    /// A planner with no task. The machine stays in it up to the first load, and changes no answer.
     pub fn new(machine: M, estimate: E) -> Planner<M, E>
         ensures empty { Holds M.meaning M.state (E.value estimate) None result }
         ensures estimate { estimate_of result ≡ estimate }

@@ -5,7 +5,7 @@ use Rattle.machine.specs.Turns.{turns}
 
 -- A list of turns made has the last one first; a plan is in the order of its turns.
 
--- A look asks the estimate of the state reached. It finds a state to cut, with its total; a state that is home, with the turns that led there as a plan; or a state to continue.
+-- A look takes the estimate of a state. It finds a state to cut, with its total; a state that is home, with the turns that led there as a plan; or a state to continue.
 pub data Look : Type 0 where
   cut : ℕ → Look
   home : List ℕ → Look

@@ -8,15 +8,15 @@ use std::fmt;
 /// Why the console refuses a call or a command.
 #[derive(Clone, Copy, PartialEq, Eq, Debug)]
 pub enum Fault {
-    /// 1: the tape has more than 4,096 bytes
+    /// 1: the tape is longer than 4,096 bytes
     TapeLength,
-    /// 2: the place is beyond the tape's end
+    /// 2: the place is past the end of the tape
     Place,
-    /// 3: the reply buffer has fewer than 66 bytes
+    /// 3: there are fewer than 66 bytes of room for a reply
     ReplyRoom,
     /// 4: no command has this letter
     UnknownCommand,
-    /// 5: the operands run past the tape's end
+    /// 5: the tape ends before the operands do
     OperandsCut,
     /// 6 to 11
     Machine(machine::Fault),

@@ -44,7 +44,7 @@ module _ {A : Type 0} {b : Ghosts A} where
   turned s k =
       refitted s (flipped_over s k) (moved_permutation b.form b.regular s.arrangement.n (block_move s.arrangement.n k) (block_exchange s.arrangement.n k) s.arrangement.trays (flipped_over s k) (turn_moves s k) (permuted s))
 
-  -- What a tower means whose lowest turn is `low`: turn k, from there to n, turns round the first k trays and changes the side of each, where they have sides; home is 1 to n rising from the top, each as it stands at home.
+  -- What a tower means whose lowest turn is `low`: turn k, from there to n, turns the block of the first k trays round, and over where they have sides; home is 1 to n rising from the top, each as it stands at home.
   abbrev pub tower : ℕ → Meaning (Tower A b)
   tower low = record { lowest = λ s. low; highest = λ s. s.arrangement.n; after = turned; home = λ s. in_order b.form (take s.arrangement.n s.arrangement.trays) }
 

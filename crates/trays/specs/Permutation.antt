@@ -41,10 +41,10 @@ abbrev pub answering : {A : Type 0} → TrayForm A → List A → ℕ → A
 answering f xs zero = f.upright 0
 answering f xs (suc i) = f.renumbered (suc i) (tray_at f xs i)
 
--- all places: where one of the first n places, i, holds tray j, place j of the inverse holds tray i, on the same side
+-- all places: tray j at place i, one of the first n, gives tray i at place j of the inverse, on the same side
 unfoldable pub inverse : {A : Type 0} → TrayForm A → ℕ → List A → List A
 inverse f n xs = map (λ j. answering f xs (last n (λ i. nat_eq (number_at f xs i) (suc j)))) (range_with_len 0 MOST_TRAYS)
 
--- Of a permutation: where place i holds tray j + 1, place j of the inverse holds tray i + 1, on the same side. Places count from 0.
+-- Of a permutation: tray j + 1 at place i gives tray i + 1 at place j of the inverse, on the same side. Places count from 0.
 abbrev pub Inverts : {A : Type 0} → TrayForm A → Type 0
 Inverts {A} f = (n : ℕ) (xs : List A) → n ≤ MOST_TRAYS → IsTrue (permutation f n xs) → (i j : ℕ) → i < n → number_at f xs i ≡ suc j → tray_at f (inverse f n xs) j ≡ f.renumbered (suc i) (tray_at f xs i)

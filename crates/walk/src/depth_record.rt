@@ -1,4 +1,4 @@
-// What is kept for a depth: the turn that led there, and the turn tried last from there; 0 where there is none.
+// What is kept for a depth: by which turn it was reached, and which was last tried from it; 0 where there is none.
 #[derive(Clone, Copy, PartialEq, Eq, Debug)]
 pub(crate) struct DepthRecord {
     pub(crate) led: u8,
