@@ -159,9 +159,9 @@ impl Settable for TrayRing {
     }
 
     fn set(&mut self, setup: &Setup<u8>) -> Result<(), Fault> {
-        let span = setup.span;
-        let arrangement = Arrangement::from_setup(Self::LEAST, &setup.with_span(Some(span)))?;
-        *self = TrayRing { arrangement, span };
+        let TrayRing { arrangement, span } = self;
+        arrangement.set(Self::LEAST, Some(setup.span), setup)?;
+        *span = setup.span;
         Ok(())
     }
 }

@@ -38,6 +38,28 @@ fn any_least_number(rt: HostRuntime) -> Result<(), Fail> {
 }
 
 #[test]
+fn set_in_place(rt: HostRuntime) -> Result<(), Fail> {
+    let mut a = Arrangement::<u8>::home(2);
+    a.set(3, None, &setup(3, (), &[2, 3, 1]))?;
+    assert_eq!(rt; a.trays(), [2, 3, 1].as_slice());
+    let repeated = setup(4, (), &[4, 1, 4, 2]);
+    assert_eq!(rt; a.set(1, None, &repeated), Err(Fault::TrayRepeated(2)));
+    assert_eq!(rt;
+        a.set(1, Some(5), &setup(4, (), &[4, 3, 2, 1])),
+        Err(Fault::Span)
+    );
+    assert_eq!(rt;
+        a.set(5, None, &setup(4, (), &[4, 3, 2, 1])),
+        Err(Fault::TrayCount)
+    );
+    assert_eq!(rt; a.trays(), [2, 3, 1].as_slice());
+    // The span that the setup has is not looked at.
+    a.set(0, Some(2), &setup(2, 9u8, &[2, 1]))?;
+    assert_eq!(rt; a.trays(), [2, 1].as_slice());
+    Ok(())
+}
+
+#[test]
 fn copies_and_inverses(rt: HostRuntime) -> Result<(), Fail> {
     let a = arrangement(1, 3, None, &[2, 3, 1])?;
     assert_eq!(rt; a.clone()?.trays(), [2, 3, 1].as_slice());

@@ -142,8 +142,6 @@ impl<T: TowerTray> Settable for Tower<T> {
     }
 
     fn set(&mut self, setup: &Setup<()>) -> Result<(), Fault> {
-        let arrangement = Arrangement::from_setup(Self::LEAST, &setup.with_span(None))?;
-        *self = Tower { arrangement };
-        Ok(())
+        self.arrangement.set(Self::LEAST, None, setup)
     }
 }

@@ -2,7 +2,7 @@ ghost use Rattle.std.specs.Prelude.{◌≡◌, ℕ, ◌≤◌, ⊤, IsTrue, min,
 ghost use Rattle.trays.specs.declared.arrangement.TheConstants.{MOST_TRAYS};
 ghost use Rattle.trays.specs.AtHome.{AtHome};
 ghost use Rattle.trays.specs.Permutation.{in_order, inverse, permutation};
-ghost use Rattle.trays.specs.Settable.{Accepted, Refused, Spanned};
+ghost use Rattle.trays.specs.Settable.{Accepted, Refused, Sets, Spanned};
 
 use crate::bytes::read_trays;
 use crate::check::check_trays;
@@ -43,6 +43,8 @@ impl<T: Tray> Clone for Arrangement<T> {
 impl<T: Tray> Copy for Arrangement<T> {}
 
 impl<T: Tray> Arrangement<T> {
+    ghost use Rattle.trays.specs.Arranged.{arranged};
+
     /// The trays 1 to n as they stand at home. n below 1 counts as 1, and above `MOST_TRAYS` as that.
     pub fn home(n: u8) -> Arrangement<T>
         ensures count { result.n ≡ max (min n MOST_TRAYS) 1 }
@@ -61,9 +63,22 @@ impl<T: Tray> Arrangement<T> {
             (λ f. Refused T.form (max least 1) setup.now.n setup.now.span
             (map T.form.read setup.now.bytes) f) }
     {
+        let mut arrangement = Arrangement::home(1);
+        arrangement.set(least, setup.span, setup)?;
+        Ok(arrangement)
+    }
+
+    // In place, since an arrangement that is handed over in a `Result` is copied twice.
+    /// Makes this the arrangement of the first n bytes, where the other bytes are 0; or refuses them, or the span, and changes nothing. The span that the setup has is not looked at. A least number below 1 counts as 1.
+    pub fn set<S>(&mut self, least: u8, span: Option<u8>, setup: &Setup<S>) -> Result<(), Fault>
+        ensures { Sets T.form (max least 1) (arranged span) self.old
+            (record { count = setup.now.n; span = span; trays = map T.form.read setup.now.bytes })
+            result self.new }
+    {
         let trays = read_trays(&setup.bytes);
-        check_trays(least.max(1), setup.n, setup.span, &trays)?;
-        Ok(Arrangement::accepted(setup.n, trays))
+        check_trays(least.max(1), setup.n, span, &trays)?;
+        *self = Arrangement::accepted(setup.n, trays);
+        Ok(())
     }
 
     // The arrangement of trays that have passed every check.

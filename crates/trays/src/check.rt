@@ -60,18 +60,14 @@ fn check_span(n: u8, span: Option<u8>) -> Result<(), Fault>
 // The next four take n and the trays each, since the prover does not find that a struct with an array of trays of a generic T, which a method would borrow, fits in memory.
 
 // The first of n places whose number is not from 1 to n.
-#[tactic(auto, using(crate::proofs::Places::taken))]
 fn misnumbered<T: Tray>(n: u8, trays: &[T; MOST_TRAYS]) -> Option<usize>
     requires { n ≤ MOST_TRAYS }
     ensures { Found (Numbered n (number_at T.form trays.now)) 0 n result }
 {
-    // A loop over the n trays: of a chain over the first n of all places the compiler makes code for each place.
-    for (i, tray) in trays[..n as usize].iter().enumerate() {
-        if !(1..=n).contains(&tray.number()) {
-            return Some(i);
-        }
-    }
-    None
+    // A slice, since of `take(n)` of all places the compiler makes code for each place.
+    trays[..n as usize]
+        .iter()
+        .position(|tray| !(1..=n).contains(&tray.number()))
 }
 
 // The first of n places whose number stands at an earlier place too. The numbers seen are bits of a word, as in `all_distinct`, which counts them.
@@ -113,11 +109,13 @@ fn all_distinct<T: Tray>(n: u8, trays: &[T; MOST_TRAYS]) -> bool
 
 // The first place from n on that has a tray.
 fn filled<T: Tray>(n: u8, trays: &[T; MOST_TRAYS]) -> Option<usize>
+    requires { n ≤ MOST_TRAYS }
     ensures { Found (Blank T.form trays.now) n MOST_TRAYS result }
 {
-    trays
+    // The prover does not take a part of an array of a generic T from n on, but of a slice.
+    let places = &trays[..];
+    places[n as usize..]
         .iter()
-        .skip(n as usize)
         .position(|tray| !tray.stands(0))
         .map(|i| n as usize + i)
 }
