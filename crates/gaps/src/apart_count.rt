@@ -33,7 +33,7 @@ impl<T: Neighbour> SuccessorEstimate<Tower<T>> for ApartCount {
     }
 }
 
-/// How many neighbours in a plain tower have numbers more than 1 apart.
+/// How many trays of a plain tower have a number more than 1 from that of the next one down, which for the last is n + 1.
 #[tactic(auto, using(crate::specs::Laws::gaps_consistent))]
 pub fn count_gaps(tower: &PlainTower) -> u8
     ensures consistent { Consistent ⟦<PlainTower as machine::Machine>⟧.meaning 1 gaps }

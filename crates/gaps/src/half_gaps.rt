@@ -13,7 +13,7 @@ use estimate::{Estimate, SuccessorEstimate};
 use ring::TrayRing;
 use trays::{Settable, place_on};
 
-/// How many trays of a ring of n have a next one whose number is not 1 and not n - 1 away.
+/// How many trays of a ring of n have a next one round whose number is not 1 and not n - 1 away.
 #[tactic(auto, using(crate::proofs::Held::ring_long, crate::specs::Laws::ring_consistent))]
 pub fn count_ring_gaps(ring: &TrayRing) -> u8
     ensures consistent { Consistent ⟦<TrayRing as machine::Machine>⟧.meaning 2 ring_gaps }
