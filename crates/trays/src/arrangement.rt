@@ -69,7 +69,7 @@ impl<T: Tray> Arrangement<T> {
     }
 
     // In place, since an arrangement that is handed over in a `Result` is copied twice.
-    /// Makes this the arrangement of the first n bytes, where the other bytes are 0; or refuses them, or the span, and changes nothing. The span that the setup has is not looked at. A least number below 1 counts as 1.
+    /// Makes this the arrangement of the first n bytes, where the other bytes are 0; or refuses the number, the span or the bytes, and changes nothing. The span that the setup has is not looked at. A least number below 1 counts as 1.
     pub fn set<S>(&mut self, least: u8, span: Option<u8>, setup: &Setup<S>) -> Result<(), Fault>
         ensures { Sets T.form (max least 1) (arranged span) self.old
             (record { count = setup.now.n; span = span; trays = map T.form.read setup.now.bytes })

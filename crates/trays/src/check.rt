@@ -112,7 +112,7 @@ fn filled<T: Tray>(n: u8, trays: &[T; MOST_TRAYS]) -> Option<usize>
     requires { n ≤ MOST_TRAYS }
     ensures { Found (Blank T.form trays.now) n MOST_TRAYS result }
 {
-    // The prover does not take a part of an array of a generic T from n on, but of a slice.
+    // Of an array of a generic T the prover takes no part from n on; of a slice it does.
     let places = &trays[..];
     places[n as usize..]
         .iter()
